@@ -1,0 +1,3 @@
+pub mod Bests
+mod Answers
+mod Plates

@@ -1,0 +1,2 @@
+// Orders, rankings and the rules by which they trade.
+pub mod types;
