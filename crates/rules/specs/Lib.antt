@@ -1,0 +1,5 @@
+pub mod Orders
+pub mod Rankings
+pub mod Trading
+pub mod Sweeps
+pub mod Calls

@@ -118,3 +118,11 @@ pub enum Class {
     Program,
     Dark,
 }
+
+// A resting order with its side and its place there.
+#[derive(Clone, Copy, PartialEq, Eq, Debug)]
+pub struct Located {
+    pub side: Side,
+    pub place: usize,
+    pub order: Order,
+}
