@@ -93,4 +93,4 @@ sweep (suc n) s = elim (next s) [ None ↦ swept [] s | Some t ↦ rows-before (
 -- an entry is measured first: with a volume below its MTV nothing trades; 144 steps are enough,
 -- since each but the last takes an order or a quotation off
 unfoldable pub measured-sweep : Stand → Swept
-measured-sweep s = cond (leb (mtv-of (s .incoming .kind)) (volume s)) (sweep 144 s) (swept [] s)
+measured-sweep s = cond (leb (mtv-of (s .incoming .kind)) (volume (s .incoming) (s .opp) (s .quotes))) (sweep 144 s) (swept [] s)

@@ -31,16 +31,20 @@ abbrev pub reaches-mtv : Order → Order → Bool
 reaches-mtv i o = leb (mtv-of (o .kind)) (i .«open»)
 
 -- 4. no protected bid is above the price and no protected offer below it; for an incoming Type 2
--- only the quotations of its own side count
+-- only the quotations of its own side count. It is enough to ask the best of each side.
+pub record Bests : Type 0 where
+  pub own : Option Best
+  pub other : Option Best
+
+abbrev pub bests : Quotes → Side → Bests
+bests b s = record { own = best-in b s; other = best-in b (opposite s) }
+
 abbrev pub no-better : Option Best → Side → ℕ → Bool
 no-better None s p = true
-no-better (Some b) s p = not (better s (b .quote .price) p)
+no-better (Some x) s p = not (better s (x .quote .price) p)
 
-abbrev pub clear : Quotes → Side → ℕ → Bool
-clear b s p = no-better (best-in b s) s p
-
-abbrev pub unbarred : Order → Quotes → ℕ → Bool
-unbarred i b p = clear b (i .side) p && (type2 (i .kind) || clear b (opposite (i .side)) p)
+abbrev pub unbarred : Order → Bests → ℕ → Bool
+unbarred i x p = no-better (x .own) (i .side) p && (type2 (i .kind) || no-better (x .other) (opposite (i .side)) p)
 
 -- 5. between two Program orders every displayed order at rest is worse than the price for its side
 abbrev pub worse-than : ℕ → Order → Bool
@@ -54,25 +58,28 @@ abbrev pub behind-displayed : Order → List Order → List Order → Order → 
 behind-displayed i own opp o = not (program (i .kind) && program (o .kind)) || (all-worse (o .price) opp && all-worse (o .price) own)
 
 -- conditions 1 to 4; the second is the table of kinds
-abbrev pub first-four : Order → Quotes → Order → Bool
-first-four i b o = within-limit i (o .price) && (meets (i .kind) (o .kind) && (reaches-mtv i o && unbarred i b (o .price)))
+abbrev pub first-four : Order → Bests → Order → Bool
+first-four i x o = within-limit i (o .price) && (meets (i .kind) (o .kind) && (reaches-mtv i o && unbarred i x (o .price)))
 
 -- all five; shut, since what uses it needs only its name
-unfoldable pub may-trade : Stand → Order → Bool
-may-trade s o = first-four (s .incoming) (s .quotes) o && behind-displayed (s .incoming) (s .own) (s .opp) o
+unfoldable pub passes : Order → Bests → List Order → List Order → Order → Bool
+passes i x own opp o = first-four i x o && behind-displayed i own opp o
+
+abbrev pub may-trade : Stand → Order → Bool
+may-trade s = passes (s .incoming) (bests (s .quotes) (s .incoming .side)) (s .own) (s .opp)
 
 -- the volume: open shares of the orders that pass conditions 1 to 4
-abbrev pub worth : Order → Quotes → Order → ℕ
-worth i b o = cond (first-four i b o) (o .«open») 0
+abbrev pub worth : Order → Bests → Order → ℕ
+worth i x o = cond (first-four i x o) (o .«open») 0
 
-abbrev pub resting-volume : Order → Quotes → List Order → ℕ
-resting-volume i b [] = 0
-resting-volume i b (o ∷ os) = worth i b o + resting-volume i b os
+abbrev pub resting-volume : Order → Bests → List Order → ℕ
+resting-volume i x [] = 0
+resting-volume i x (o ∷ os) = worth i x o + resting-volume i x os
 
 -- and for a Type 2 the shares of each protected quotation of the other side at its limit or better
 abbrev pub quote-worth : Order → Option Quote → ℕ
 quote-worth i None = 0
-quote-worth i (Some x) = cond (within-limit i (x .price)) (x .shares) 0
+quote-worth i (Some q) = cond (within-limit i (q .price)) (q .shares) 0
 
 -- over the markets 1 to n
 abbrev pub away-upto : Order → Quotes → ℕ → ℕ
@@ -83,5 +90,5 @@ away-upto i b (suc n) = away-upto i b n + quote-worth i (b (opposite (i .side)) 
 unfoldable pub away-volume : Order → Quotes → ℕ
 away-volume i b = cond (type2 (i .kind)) (away-upto i b 16) 0
 
-abbrev pub volume : Stand → ℕ
-volume s = resting-volume (s .incoming) (s .quotes) (s .opp) + away-volume (s .incoming) (s .quotes)
+abbrev pub volume : Order → List Order → Quotes → ℕ
+volume i opp b = resting-volume i (bests b (i .side)) opp + away-volume i b

@@ -1,4 +1,4 @@
 mod Shift
-mod Searches
+pub mod Searches
 pub mod Lex
 pub mod Sorting

@@ -1,0 +1,4 @@
+// The book of one security: who may trade, the sweep, and the calls.
+mod eligible;
+mod kinds;
+mod types;
