@@ -1,0 +1,211 @@
+// The sweep of an entry: routes and fills, one at a time, until nothing is left of it or nothing
+// may trade.
+ghost use mathlib.Core.Path.{_≡_};
+ghost use Prim.Native.Nat.{ℕ, _+_, _-_, _≤_, _<_, min};
+ghost use lib.ListN.{length, take, drop};
+ghost use Rattle.std.specs.declared.option.Option.the-variants.{Some, None};
+ghost use Rattle.market.specs.Words.{opposite};
+ghost use Rattle.rules.specs.declared.types.Row.the-variants.{Fill, Route};
+ghost use Rattle.rules.specs.Sweeps.{less, taken, filled, standing, stepped, routed-first, next, sweep, swept, measured-sweep};
+use super::eligible::bests;
+use super::eligible::choose;
+use super::eligible::volume;
+use super::kinds::is_type2;
+use super::kinds::mtv_of;
+use board::Board;
+use board::types::Best;
+use market::is_better;
+use market::other;
+use rules::types::Order;
+use rules::types::Row;
+use shelf::replace;
+use shelf::take_out;
+use shelf::types::Placed;
+
+// What one step wrote, what it left of the incoming order, and how many still stand on the other
+// side.
+#[derive(Clone, Copy)]
+struct Left {
+    row: Row,
+    incoming: Order,
+    used: usize,
+}
+
+// The same of a whole sweep, with its count of rows.
+#[derive(Clone, Copy)]
+pub struct Swept {
+    pub rows: usize,
+    pub incoming: Order,
+    pub used: usize,
+}
+
+// An order with fewer shares open.
+fn less(order: &Order, shares: u32) -> Order
+    ensures { λ r. ⌜ r ≡ less shares (now (order .entry)) ⌝ }
+{
+    Order {
+        open: order.open.saturating_sub(shares),
+        ..*order
+    }
+}
+
+// The quotation that a Type 2 takes before a fill at a price: the best of the other side, if it is
+// strictly better.
+fn routed_first(incoming: &Order, best: Option<Best>, price: u32) -> Option<Best>
+    ensures { λ r. ⌜ r ≡ routed-first (now (incoming .entry)) best price ⌝ }
+{
+    let best = best?;
+    if is_type2(incoming.kind) && is_better(other(incoming.side), best.quote.price, price) {
+        return Some(best);
+    }
+    None
+}
+
+// Routes the lesser of what is open and what the quotation has.
+fn route<B: Board>(incoming: &Order, board: &mut B, best: Best, used: usize) -> Left
+    ensures row { λ r. ⌜ r .row ≡ Route (now (incoming .entry) .arrival) (best .market) (best .quote .price) (min (now (incoming .entry) .«open») (best .quote .shares)) ⌝ }
+    ensures incoming { λ r. ⌜ r .incoming ≡ less (min (now (incoming .entry) .«open») (best .quote .shares)) (now (incoming .entry)) ⌝ }
+    ensures used { λ r. ⌜ r .used ≡ used ⌝ }
+    ensures quotes { λ _. ⌜ quotes (now (board .exit)) ≡ taken (quotes (now (board .entry))) (opposite (now (incoming .entry) .side)) (best .market) (min (now (incoming .entry) .«open») (best .quote .shares)) ⌝ }
+{
+    let shares = incoming.open.min(best.quote.shares);
+    let _ = board.take(best.market, other(incoming.side), shares);
+    let row = Row::Route {
+        arrival: incoming.arrival,
+        market: best.market,
+        price: best.quote.price,
+        shares,
+    };
+    Left {
+        row,
+        incoming: less(incoming, shares),
+        used,
+    }
+}
+
+// Takes shares off a resting order, which leaves its side when nothing is left open. Answers the
+// side's count.
+fn lower(opp: &mut [Order], used: usize, chosen: Placed<Order>, shares: u32) -> usize
+    requires { ⌜ chosen .place < used ⌝ ∗ ⌜ used ≤ length (now opp) ⌝ }
+    ensures stands { λ r. ⌜ take r (now (opp .exit)) ≡ filled (take used (now (opp .entry))) chosen shares ⌝ }
+    ensures within { λ r. ⌜ r ≤ used ⌝ }
+    ensures behind { λ _. ⌜ drop used (now (opp .exit)) ≡ drop used (now (opp .entry)) ⌝ }
+{
+    if chosen.item.open <= shares {
+        return match take_out(opp, used, chosen.place) {
+            Ok(count) => count,
+            Err(_) => used,
+        };
+    }
+    let left = less(&chosen.item, shares);
+    let _ = replace(opp, used, chosen.place, left);
+    used
+}
+
+// Fills the lesser of what is open of both orders.
+fn fill(incoming: &Order, opp: &mut [Order], used: usize, chosen: Placed<Order>) -> Left
+    requires { ⌜ chosen .place < used ⌝ ∗ ⌜ used ≤ length (now opp) ⌝ }
+    ensures row { λ r. ⌜ r .row ≡ Fill (now (incoming .entry) .arrival) (chosen .item .arrival) (chosen .item .price) (min (now (incoming .entry) .«open») (chosen .item .«open»)) ⌝ }
+    ensures incoming { λ r. ⌜ r .incoming ≡ less (min (now (incoming .entry) .«open») (chosen .item .«open»)) (now (incoming .entry)) ⌝ }
+    ensures used { λ r. ⌜ r .used ≤ used ⌝ }
+    ensures stands { λ r. ⌜ take (r .used) (now (opp .exit)) ≡ filled (take used (now (opp .entry))) chosen (min (now (incoming .entry) .«open») (chosen .item .«open»)) ⌝ }
+    ensures behind { λ _. ⌜ drop used (now (opp .exit)) ≡ drop used (now (opp .entry)) ⌝ }
+{
+    let shares = incoming.open.min(chosen.item.open);
+    let row = Row::Fill {
+        incoming: incoming.arrival,
+        resting: chosen.item.arrival,
+        price: chosen.item.price,
+        shares,
+    };
+    Left {
+        row,
+        incoming: less(incoming, shares),
+        used: lower(opp, used, chosen, shares),
+    }
+}
+
+// One step: none where nothing is open or nothing may trade; else a route or a fill.
+fn step<B: Board>(
+    incoming: &Order,
+    board: &mut B,
+    own: &[Order],
+    opp: &mut [Order],
+    used: usize,
+) -> Option<Left>
+    requires { ⌜ used ≤ length (now opp) ⌝ }
+    ensures { λ r. ⌜ elim r [ None ↦ (next (standing (now (incoming .entry)) (now (own .entry)) (take used (now (opp .entry))) (quotes (now (board .entry)))) ≡ None) × (now (opp .exit) ≡ now (opp .entry)) × (quotes (now (board .exit)) ≡ quotes (now (board .entry))) | Some t ↦ (next (standing (now (incoming .entry)) (now (own .entry)) (take used (now (opp .entry))) (quotes (now (board .entry)))) ≡ Some (stepped (t .row) (standing (t .incoming) (now (own .entry)) (take (t .used) (now (opp .exit))) (quotes (now (board .exit)))))) × (t .used ≤ used) × (drop used (now (opp .exit)) ≡ drop used (now (opp .entry))) ] ⌝ }
+{
+    if incoming.open == 0 {
+        return None;
+    }
+    let bests = bests(board, incoming.side);
+    let Some(chosen) = choose(incoming, &bests, own, &opp[0..used]) else {
+        return None;
+    };
+    match routed_first(incoming, bests.other, chosen.item.price) {
+        Some(best) => Some(route(incoming, board, best, used)),
+        None => Some(fill(incoming, opp, used, chosen)),
+    }
+}
+
+// The steps of a sweep, at most 144: each but the last takes an order or a quotation off.
+fn sweep<B: Board>(
+    incoming: &Order,
+    board: &mut B,
+    own: &[Order],
+    opp: &mut [Order],
+    used: usize,
+    report: &mut [Row],
+) -> Swept
+    requires { ⌜ used ≤ length (now opp) ⌝ ∗ ⌜ 144 ≤ length (now report) ⌝ }
+    ensures swept { λ r. ⌜ swept (take (r .rows) (now (report .exit))) (standing (r .incoming) (now (own .entry)) (take (r .used) (now (opp .exit))) (quotes (now (board .exit)))) ≡ sweep 144 (standing (now (incoming .entry)) (now (own .entry)) (take used (now (opp .entry))) (quotes (now (board .entry)))) ⌝ }
+    ensures used { λ r. ⌜ (r .used ≤ used) × (r .rows ≤ 144) ⌝ }
+    ensures behind { λ r. ⌜ (drop (r .rows) (now (report .exit)) ≡ drop (r .rows) (now (report .entry))) × (drop used (now (opp .exit)) ≡ drop used (now (opp .entry))) ⌝ }
+{
+    let mut left = *incoming;
+    let mut stand = used;
+    for n in 0..144usize {
+        match step(&left, board, own, opp, stand) {
+            None => return Swept {
+                rows: n,
+                incoming: left,
+                used: stand,
+            },
+            Some(done) => {
+                report[n] = done.row;
+                left = done.incoming;
+                stand = done.used;
+            }
+        }
+    }
+    Swept {
+        rows: 144,
+        incoming: left,
+        used: stand,
+    }
+}
+
+// An entry is measured first: with a volume below its MTV nothing trades.
+pub fn measured_sweep<B: Board>(
+    incoming: &Order,
+    board: &mut B,
+    own: &[Order],
+    opp: &mut [Order],
+    used: usize,
+    report: &mut [Row],
+) -> Swept
+    requires { ⌜ used ≤ 128 ⌝ ∗ ⌜ used ≤ length (now opp) ⌝ ∗ ⌜ 144 ≤ length (now report) ⌝ }
+    ensures swept { λ r. ⌜ swept (take (r .rows) (now (report .exit))) (standing (r .incoming) (now (own .entry)) (take (r .used) (now (opp .exit))) (quotes (now (board .exit)))) ≡ measured-sweep (standing (now (incoming .entry)) (now (own .entry)) (take used (now (opp .entry))) (quotes (now (board .entry)))) ⌝ }
+    ensures used { λ r. ⌜ (r .used ≤ used) × (r .rows ≤ 144) ⌝ }
+    ensures behind { λ r. ⌜ (drop (r .rows) (now (report .exit)) ≡ drop (r .rows) (now (report .entry))) × (drop used (now (opp .exit)) ≡ drop used (now (opp .entry))) ⌝ }
+{
+    if volume(incoming, board, &opp[0..used]) < u64::from(mtv_of(incoming.kind)) {
+        return Swept {
+            rows: 0,
+            incoming: *incoming,
+            used,
+        };
+    }
+    sweep(incoming, board, own, opp, used, report)
+}
