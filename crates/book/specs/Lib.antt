@@ -1,2 +1,4 @@
 pub mod Kinds
 pub mod Asked
+pub mod Held
+pub mod Counts

@@ -1,5 +1,7 @@
 // The book of one security: who may trade, the sweep, and the calls.
+pub mod book;
 mod eligible;
+mod entering;
 mod kinds;
 mod sweeping;
 mod types;

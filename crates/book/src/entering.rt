@@ -1,0 +1,92 @@
+// An entry: sent back, or swept against the other side, and its residue rested or cancelled.
+ghost use mathlib.Core.Path.{_≡_};
+ghost use mathlib.Core.Bool.{false};
+ghost use Prim.Native.Nat.{ℕ, _+_, _≤_, _<_};
+ghost use lib.ListN.{length, take, drop};
+ghost use Rattle.std.specs.Options.{Cases as BySome};
+ghost use Rattle.rules.specs.Orders.{cancels};
+ghost use Rattle.rules.specs.Sweeps.{standing, swept, measured-sweep};
+ghost use Rattle.rules.specs.Calls.{cells-ok, cells-refusal, enter-refusal, own-after, entered, decided, outcome, rows-in, rows-kept, terms, enter};
+ghost use Rattle.book.specs.Counts.{count-of};
+ghost use Rattle.book.specs.Held.{held};
+use super::book::Book;
+use super::kinds::is_cancelled;
+use super::kinds::is_ilo;
+use super::kinds::is_olo;
+use super::kinds::is_too_small;
+use super::kinds::mtv_of;
+use super::sweeping::measured_sweep;
+use board::Board;
+use market::is_in_range;
+use market::types::Refusal;
+use market::types::Side;
+use rules::ranking::OrderShelved;
+use rules::ranking::Ranking;
+use rules::ranking::Sided;
+use rules::ranking::SidedPrecedence;
+use rules::types::Accepted;
+use rules::types::Kind;
+use rules::types::Order;
+use rules::types::Row;
+use shelf::put;
+
+// Whether both sides handed in have their 128 cells.
+pub(crate) fn has_cells(bids: &[Order], offers: &[Order]) -> bool
+    ensures { λ r. ⌜ r ≡ cells-ok (length (now (bids .entry))) (length (now (offers .entry))) ⌝ }
+{
+    bids.len() == 128 && offers.len() == 128
+}
+
+// The first case, in the order of the checks, that sends an entry back.
+fn refused(incoming: &Order, arrivals: u32, count: usize, room: usize) -> Option<Refusal>
+    ensures value { λ r. ⌜ r ≡ enter-refusal (now (incoming .entry)) arrivals count room ⌝ }
+    ensures passes { λ r. ⌜ BySome r ((144 ≤ room) × (arrivals < 1000000) × (cancels (now (incoming .entry) .kind) ≡ false → count < 128)) (λ _. Unit {0}) ⌝ }
+{
+    let kind = incoming.kind;
+    if room < 144 {
+        return Some(Refusal::ShortReport);
+    }
+    if !is_in_range(incoming.price) {
+        return Some(Refusal::Price);
+    }
+    if !is_in_range(incoming.size) {
+        return Some(Refusal::Shares);
+    }
+    let small = is_too_small(kind, incoming.price, incoming.size);
+    if is_olo(kind) && small {
+        return Some(Refusal::SmallOlo);
+    }
+    if is_ilo(kind) && small {
+        return Some(Refusal::SmallIlo);
+    }
+    if incoming.size < mtv_of(kind) {
+        return Some(Refusal::LargeMtv);
+    }
+    if arrivals >= 1_000_000 {
+        return Some(Refusal::ArrivalsSpent);
+    }
+    if !is_cancelled(kind) && count >= 128 {
+        return Some(Refusal::SideFull);
+    }
+    None
+}
+
+// Rests the residue, or leaves the side as it is. Answers the side's count.
+fn settle<R: Ranking + Copy>(ranking: R, left: &Order, own: &mut [Order], count: usize) -> usize
+    requires { ⌜ count ≤ length (now own) ⌝ ∗ ⌜ (cancels (now left .kind) ≡ false → count < length (now own)) ⌝ }
+    ensures stands { λ r. ⌜ take r (now (own .exit)) ≡ own-after (ranked ranking) (now (left .entry)) (take count (now (own .entry))) ⌝ }
+    ensures within { λ r. ⌜ r ≤ length (now (own .entry)) ⌝ }
+    ensures behind { λ r. ⌜ drop r (now (own .exit)) ≡ drop r (now (own .entry)) ⌝ }
+{
+    if left.open == 0 || is_cancelled(left.kind) {
+        return count;
+    }
+    let order = Sided {
+        side: left.side,
+        ranking,
+    };
+    match put(&order, own, count, *left) {
+        Ok(more) => more,
+        Err(_) => count,
+    }
+}
