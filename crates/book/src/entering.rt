@@ -5,7 +5,7 @@ ghost use Prim.Native.Nat.{ℕ, _+_, _≤_, _<_};
 ghost use lib.ListN.{length, take, drop};
 ghost use Rattle.std.specs.Options.{Cases as BySome};
 ghost use Rattle.rules.specs.Orders.{cancels};
-ghost use Rattle.rules.specs.Sweeps.{standing, swept, measured-sweep};
+ghost use Rattle.rules.specs.Sweeps.{standing, swept, with-open, measured-sweep};
 ghost use Rattle.rules.specs.Calls.{cells-ok, cells-refusal, enter-refusal, own-after, entered, decided, outcome, rows-in, rows-kept, terms, enter};
 ghost use Rattle.book.specs.Counts.{count-of};
 ghost use Rattle.book.specs.Held.{held};
@@ -15,7 +15,11 @@ use super::kinds::is_ilo;
 use super::kinds::is_olo;
 use super::kinds::is_too_small;
 use super::kinds::mtv_of;
+use super::limits::CELLS;
+use super::limits::MOST_ENTRIES;
+use super::limits::REPORT_ROWS;
 use super::sweeping::measured_sweep;
+use super::sweeping::with_open;
 use board::Board;
 use market::is_in_range;
 use market::types::Refusal;
@@ -34,7 +38,7 @@ use shelf::put;
 pub(crate) fn has_cells(bids: &[Order], offers: &[Order]) -> bool
     ensures { λ r. ⌜ r ≡ cells-ok (length (now (bids .entry))) (length (now (offers .entry))) ⌝ }
 {
-    bids.len() == 128 && offers.len() == 128
+    bids.len() == CELLS && offers.len() == CELLS
 }
 
 // The first case, in the order of the checks, that sends an entry back.
@@ -43,7 +47,7 @@ fn refused(incoming: &Order, arrivals: u32, count: usize, room: usize) -> Option
     ensures passes { λ r. ⌜ BySome r ((144 ≤ room) × (arrivals < 1000000) × (cancels (now (incoming .entry) .kind) ≡ false → count < 128)) (λ _. Unit {0}) ⌝ }
 {
     let kind = incoming.kind;
-    if room < 144 {
+    if room < REPORT_ROWS {
         return Some(Refusal::ShortReport);
     }
     if !is_in_range(incoming.price) {
@@ -62,10 +66,10 @@ fn refused(incoming: &Order, arrivals: u32, count: usize, room: usize) -> Option
     if incoming.size < mtv_of(kind) {
         return Some(Refusal::LargeMtv);
     }
-    if arrivals >= 1_000_000 {
+    if arrivals >= MOST_ENTRIES {
         return Some(Refusal::ArrivalsSpent);
     }
-    if !is_cancelled(kind) && count >= 128 {
+    if !is_cancelled(kind) && count >= CELLS {
         return Some(Refusal::SideFull);
     }
     None
@@ -88,5 +92,65 @@ fn settle<R: Ranking + Copy>(ranking: R, left: &Order, own: &mut [Order], count:
     match put(&order, own, count, *left) {
         Ok(more) => more,
         Err(_) => count,
+    }
+}
+
+// What a sweep and its residue left: the entry's open shares, both counts, and the count of rows.
+#[derive(Clone, Copy)]
+struct Traded {
+    open: u32,
+    own: usize,
+    opp: usize,
+    rows: usize,
+}
+
+// Sweeps the other side and settles the residue on the entry's own.
+fn trade<R: Ranking + Copy, B: Board>(
+    ranking: R,
+    incoming: &Order,
+    own: &mut [Order],
+    own_count: usize,
+    opp: &mut [Order],
+    opp_count: usize,
+    board: &mut B,
+    report: &mut [Row],
+) -> Traded
+    requires { ⌜ «own_count» ≤ length (now own) ⌝ ∗ ⌜ (cancels (now incoming .kind) ≡ false → «own_count» < length (now own)) ⌝ ∗ ⌜ «opp_count» ≤ 128 ⌝ ∗ ⌜ «opp_count» ≤ length (now opp) ⌝ ∗ ⌜ 144 ≤ length (now report) ⌝ }
+    ensures swept { λ r. ⌜ swept (take (r .rows) (now (report .exit))) (standing (with-open (r .«open») (now (incoming .entry))) (take «own_count» (now (own .entry))) (take (r .opp) (now (opp .exit))) (quotes (now (board .exit)))) ≡ measured-sweep (standing (now (incoming .entry)) (take «own_count» (now (own .entry))) (take «opp_count» (now (opp .entry))) (quotes (now (board .entry)))) ⌝ }
+    ensures own { λ r. ⌜ take (r .own) (now (own .exit)) ≡ own-after (ranked ranking) (with-open (r .«open») (now (incoming .entry))) (take «own_count» (now (own .entry))) ⌝ }
+    ensures counts { λ r. ⌜ (r .own ≤ length (now (own .entry))) × (r .opp ≤ «opp_count») × (r .rows ≤ 144) ⌝ }
+    ensures behind { λ r. ⌜ (drop (r .rows) (now (report .exit)) ≡ drop (r .rows) (now (report .entry))) × (drop «opp_count» (now (opp .exit)) ≡ drop «opp_count» (now (opp .entry))) × (drop (r .own) (now (own .exit)) ≡ drop (r .own) (now (own .entry))) ⌝ }
+{
+    let swept = measured_sweep(
+        incoming,
+        board,
+        &own[0..own_count],
+        opp,
+        opp_count,
+        report,
+    );
+    let left = with_open(incoming, swept.open);
+    Traded {
+        open: swept.open,
+        own: settle(ranking, &left, own, own_count),
+        opp: swept.used,
+        rows: swept.rows,
+    }
+}
+
+// What an entry answers, by what its sweep left of it.
+fn answer(left: &Order, rows: usize) -> Accepted
+    ensures { λ r. ⌜ r ≡ entered (now (left .entry)) rows ⌝ }
+{
+    let (open, cancelled) = if is_cancelled(left.kind) {
+        (0, left.open)
+    } else {
+        (left.open, 0)
+    };
+    Accepted {
+        arrival: left.arrival,
+        open,
+        cancelled,
+        rows,
     }
 }

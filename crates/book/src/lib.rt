@@ -3,5 +3,6 @@ pub mod book;
 mod eligible;
 mod entering;
 mod kinds;
+pub mod limits;
 mod sweeping;
 mod types;

@@ -6,12 +6,13 @@ ghost use lib.ListN.{length, take, drop};
 ghost use Rattle.std.specs.declared.option.Option.the-variants.{Some, None};
 ghost use Rattle.market.specs.Words.{opposite};
 ghost use Rattle.rules.specs.declared.types.Row.the-variants.{Fill, Route};
-ghost use Rattle.rules.specs.Sweeps.{less, taken, filled, standing, stepped, routed-first, next, sweep, swept, measured-sweep};
+ghost use Rattle.rules.specs.Sweeps.{with-open, taken, filled, standing, stepped, routed-first, next, sweep, swept, measured-sweep};
 use super::eligible::bests;
 use super::eligible::choose;
 use super::eligible::volume;
 use super::kinds::is_type2;
 use super::kinds::mtv_of;
+use super::limits::REPORT_ROWS;
 use board::Board;
 use board::types::Best;
 use market::is_better;
@@ -22,12 +23,11 @@ use shelf::replace;
 use shelf::take_out;
 use shelf::types::Placed;
 
-// What one step wrote, what it left of the incoming order, and how many still stand on the other
-// side.
+// What one step wrote, the shares that it left open, and how many still stand on the other side.
 #[derive(Clone, Copy)]
 struct Left {
     row: Row,
-    incoming: Order,
+    open: u32,
     used: usize,
 }
 
@@ -35,18 +35,15 @@ struct Left {
 #[derive(Clone, Copy)]
 pub struct Swept {
     pub rows: usize,
-    pub incoming: Order,
+    pub open: u32,
     pub used: usize,
 }
 
-// An order with fewer shares open.
-fn less(order: &Order, shares: u32) -> Order
-    ensures { λ r. ⌜ r ≡ less shares (now (order .entry)) ⌝ }
+// An order with other shares open.
+pub fn with_open(order: &Order, open: u32) -> Order
+    ensures { λ r. ⌜ r ≡ with-open «open» (now (order .entry)) ⌝ }
 {
-    Order {
-        open: order.open.saturating_sub(shares),
-        ..*order
-    }
+    Order { open, ..*order }
 }
 
 // The quotation that a Type 2 takes before a fill at a price: the best of the other side, if it is
@@ -64,7 +61,7 @@ fn routed_first(incoming: &Order, best: Option<Best>, price: u32) -> Option<Best
 // Routes the lesser of what is open and what the quotation has.
 fn route<B: Board>(incoming: &Order, board: &mut B, best: Best, used: usize) -> Left
     ensures row { λ r. ⌜ r .row ≡ Route (now (incoming .entry) .arrival) (best .market) (best .quote .price) (min (now (incoming .entry) .«open») (best .quote .shares)) ⌝ }
-    ensures incoming { λ r. ⌜ r .incoming ≡ less (min (now (incoming .entry) .«open») (best .quote .shares)) (now (incoming .entry)) ⌝ }
+    ensures left { λ r. ⌜ r .«open» ≡ now (incoming .entry) .«open» - min (now (incoming .entry) .«open») (best .quote .shares) ⌝ }
     ensures used { λ r. ⌜ r .used ≡ used ⌝ }
     ensures quotes { λ _. ⌜ quotes (now (board .exit)) ≡ taken (quotes (now (board .entry))) (opposite (now (incoming .entry) .side)) (best .market) (min (now (incoming .entry) .«open») (best .quote .shares)) ⌝ }
 {
@@ -78,7 +75,7 @@ fn route<B: Board>(incoming: &Order, board: &mut B, best: Best, used: usize) -> 
     };
     Left {
         row,
-        incoming: less(incoming, shares),
+        open: incoming.open - shares,
         used,
     }
 }
@@ -97,7 +94,7 @@ fn lower(opp: &mut [Order], used: usize, chosen: Placed<Order>, shares: u32) -> 
             Err(_) => used,
         };
     }
-    let left = less(&chosen.item, shares);
+    let left = with_open(&chosen.item, chosen.item.open - shares);
     let _ = replace(opp, used, chosen.place, left);
     used
 }
@@ -106,7 +103,7 @@ fn lower(opp: &mut [Order], used: usize, chosen: Placed<Order>, shares: u32) -> 
 fn fill(incoming: &Order, opp: &mut [Order], used: usize, chosen: Placed<Order>) -> Left
     requires { ⌜ chosen .place < used ⌝ ∗ ⌜ used ≤ length (now opp) ⌝ }
     ensures row { λ r. ⌜ r .row ≡ Fill (now (incoming .entry) .arrival) (chosen .item .arrival) (chosen .item .price) (min (now (incoming .entry) .«open») (chosen .item .«open»)) ⌝ }
-    ensures incoming { λ r. ⌜ r .incoming ≡ less (min (now (incoming .entry) .«open») (chosen .item .«open»)) (now (incoming .entry)) ⌝ }
+    ensures left { λ r. ⌜ r .«open» ≡ now (incoming .entry) .«open» - min (now (incoming .entry) .«open») (chosen .item .«open») ⌝ }
     ensures used { λ r. ⌜ r .used ≤ used ⌝ }
     ensures stands { λ r. ⌜ take (r .used) (now (opp .exit)) ≡ filled (take used (now (opp .entry))) chosen (min (now (incoming .entry) .«open») (chosen .item .«open»)) ⌝ }
     ensures behind { λ _. ⌜ drop used (now (opp .exit)) ≡ drop used (now (opp .entry)) ⌝ }
@@ -120,7 +117,7 @@ fn fill(incoming: &Order, opp: &mut [Order], used: usize, chosen: Placed<Order>)
     };
     Left {
         row,
-        incoming: less(incoming, shares),
+        open: incoming.open - shares,
         used: lower(opp, used, chosen, shares),
     }
 }
@@ -134,7 +131,7 @@ fn step<B: Board>(
     used: usize,
 ) -> Option<Left>
     requires { ⌜ used ≤ length (now opp) ⌝ }
-    ensures { λ r. ⌜ elim r [ None ↦ (next (standing (now (incoming .entry)) (now (own .entry)) (take used (now (opp .entry))) (quotes (now (board .entry)))) ≡ None) × (now (opp .exit) ≡ now (opp .entry)) × (quotes (now (board .exit)) ≡ quotes (now (board .entry))) | Some t ↦ (next (standing (now (incoming .entry)) (now (own .entry)) (take used (now (opp .entry))) (quotes (now (board .entry)))) ≡ Some (stepped (t .row) (standing (t .incoming) (now (own .entry)) (take (t .used) (now (opp .exit))) (quotes (now (board .exit)))))) × (t .used ≤ used) × (drop used (now (opp .exit)) ≡ drop used (now (opp .entry))) ] ⌝ }
+    ensures { λ r. ⌜ elim r [ None ↦ (next (standing (now (incoming .entry)) (now (own .entry)) (take used (now (opp .entry))) (quotes (now (board .entry)))) ≡ None) × (now (opp .exit) ≡ now (opp .entry)) × (quotes (now (board .exit)) ≡ quotes (now (board .entry))) | Some t ↦ (next (standing (now (incoming .entry)) (now (own .entry)) (take used (now (opp .entry))) (quotes (now (board .entry)))) ≡ Some (stepped (t .row) (standing (with-open (t .«open») (now (incoming .entry))) (now (own .entry)) (take (t .used) (now (opp .exit))) (quotes (now (board .exit)))))) × (t .used ≤ used) × (drop used (now (opp .exit)) ≡ drop used (now (opp .entry))) ] ⌝ }
 {
     if incoming.open == 0 {
         return None;
@@ -159,29 +156,29 @@ fn sweep<B: Board>(
     report: &mut [Row],
 ) -> Swept
     requires { ⌜ used ≤ length (now opp) ⌝ ∗ ⌜ 144 ≤ length (now report) ⌝ }
-    ensures swept { λ r. ⌜ swept (take (r .rows) (now (report .exit))) (standing (r .incoming) (now (own .entry)) (take (r .used) (now (opp .exit))) (quotes (now (board .exit)))) ≡ sweep 144 (standing (now (incoming .entry)) (now (own .entry)) (take used (now (opp .entry))) (quotes (now (board .entry)))) ⌝ }
+    ensures swept { λ r. ⌜ swept (take (r .rows) (now (report .exit))) (standing (with-open (r .«open») (now (incoming .entry))) (now (own .entry)) (take (r .used) (now (opp .exit))) (quotes (now (board .exit)))) ≡ sweep 144 (standing (now (incoming .entry)) (now (own .entry)) (take used (now (opp .entry))) (quotes (now (board .entry)))) ⌝ }
     ensures used { λ r. ⌜ (r .used ≤ used) × (r .rows ≤ 144) ⌝ }
     ensures behind { λ r. ⌜ (drop (r .rows) (now (report .exit)) ≡ drop (r .rows) (now (report .entry))) × (drop used (now (opp .exit)) ≡ drop used (now (opp .entry))) ⌝ }
 {
-    let mut left = *incoming;
+    let mut open = incoming.open;
     let mut stand = used;
-    for n in 0..144usize {
-        match step(&left, board, own, opp, stand) {
+    for n in 0..REPORT_ROWS {
+        match step(&with_open(incoming, open), board, own, opp, stand) {
             None => return Swept {
                 rows: n,
-                incoming: left,
+                open,
                 used: stand,
             },
             Some(done) => {
                 report[n] = done.row;
-                left = done.incoming;
+                open = done.open;
                 stand = done.used;
             }
         }
     }
     Swept {
-        rows: 144,
-        incoming: left,
+        rows: REPORT_ROWS,
+        open,
         used: stand,
     }
 }
@@ -196,14 +193,14 @@ pub fn measured_sweep<B: Board>(
     report: &mut [Row],
 ) -> Swept
     requires { ⌜ used ≤ 128 ⌝ ∗ ⌜ used ≤ length (now opp) ⌝ ∗ ⌜ 144 ≤ length (now report) ⌝ }
-    ensures swept { λ r. ⌜ swept (take (r .rows) (now (report .exit))) (standing (r .incoming) (now (own .entry)) (take (r .used) (now (opp .exit))) (quotes (now (board .exit)))) ≡ measured-sweep (standing (now (incoming .entry)) (now (own .entry)) (take used (now (opp .entry))) (quotes (now (board .entry)))) ⌝ }
+    ensures swept { λ r. ⌜ swept (take (r .rows) (now (report .exit))) (standing (with-open (r .«open») (now (incoming .entry))) (now (own .entry)) (take (r .used) (now (opp .exit))) (quotes (now (board .exit)))) ≡ measured-sweep (standing (now (incoming .entry)) (now (own .entry)) (take used (now (opp .entry))) (quotes (now (board .entry)))) ⌝ }
     ensures used { λ r. ⌜ (r .used ≤ used) × (r .rows ≤ 144) ⌝ }
     ensures behind { λ r. ⌜ (drop (r .rows) (now (report .exit)) ≡ drop (r .rows) (now (report .entry))) × (drop used (now (opp .exit)) ≡ drop used (now (opp .entry))) ⌝ }
 {
     if volume(incoming, board, &opp[0..used]) < u64::from(mtv_of(incoming.kind)) {
         return Swept {
             rows: 0,
-            incoming: *incoming,
+            open: incoming.open,
             used,
         };
     }

@@ -20,9 +20,12 @@ use Rattle.rules.specs.declared.types.Row.the-variants.{Fill, Route}
 use Rattle.rules.specs.Orders.{mtv-of, type2}
 use Rattle.rules.specs.Trading.{Stand, may-trade, volume}
 
+abbrev pub with-open : ℕ → Order → Order
+with-open n o = record { arrival = o .arrival; side = o .side; price = o .price; kind = o .kind; size = o .size; «open» = n }
+
 -- n shares fewer open
 abbrev pub less : ℕ → Order → Order
-less n o = record { arrival = o .arrival; side = o .side; price = o .price; kind = o .kind; size = o .size; «open» = o .«open» - n }
+less n o = with-open (o .«open» - n) o
 
 -- the quotations after a take, which may be refused
 abbrev pub taken : Quotes → Side → ℕ → ℕ → Quotes

@@ -4,9 +4,9 @@ use Rattle.std.proofs.shelf.Ways.{tells}
 use Rattle.rules.specs.Calls.{enter-refusal}
 use Rattle.book.proofs.entering.refused.Needs as need
 
-pub returns-then-room-lt144 : need.returns-then-room-lt144
+pub returns-then-room-lt-REPORT-ROWS : need.returns-then-room-lt-REPORT-ROWS
 unfolding enter-refusal
-returns-then-room-lt144 c = record { value = search needs; passes = search needs }
+returns-then-room-lt-REPORT-ROWS c = record { value = search needs; passes = search needs }
 
 pub returns-then-not-is-in-range : need.returns-then-not-is-in-range
 unfolding enter-refusal
@@ -28,13 +28,13 @@ pub returns-then-incoming-mtv-of : need.returns-then-incoming-mtv-of
 unfolding enter-refusal
 returns-then-incoming-mtv-of c = record { value = search needs; passes = search needs }
 
-pub returns-then-arrivals-ge1000000 : need.returns-then-arrivals-ge1000000
+pub returns-then-arrivals-ge-MOST-ENTRIES : need.returns-then-arrivals-ge-MOST-ENTRIES
 unfolding enter-refusal
-returns-then-arrivals-ge1000000 c = record { value = search needs; passes = search needs }
+returns-then-arrivals-ge-MOST-ENTRIES c = record { value = search needs; passes = search needs }
 
-pub returns-then-count-ge128 : need.returns-then-count-ge128
+pub returns-then-count-ge-CELLS : need.returns-then-count-ge-CELLS
 unfolding enter-refusal
-returns-then-count-ge128 c = record { value = search needs; passes = search needs }
+returns-then-count-ge-CELLS c = record { value = search needs; passes = search needs }
 
 pub returns : need.returns
 unfolding enter-refusal

@@ -12,10 +12,11 @@ step-requires g c κs = omega (arith, c .loop-n .inv .1)
 pub loop-n-again : need.loop-n-again
 loop-n-again g c =
     let t = c .in-Some .ensures tt in
+    let n = rw (c .with-open .ensures) at (t .0) in
     let h : c .loop-n .n < length (c .loop-n .report) = omega arith in
     let k : 144 - c .loop-n .n ≡ suc (144 - (c .loop-n .n + 1)) = omega arith in
     let inv = c .loop-n .inv in (
-      sweep-more (c .loop-n .report) (c .loop-n .n) (144 - c .loop-n .n) _ _ _ _ _ h k (t .0) (inv .0),
+      sweep-more (c .loop-n .report) (c .loop-n .n) (144 - c .loop-n .n) _ _ _ _ _ h k n (inv .0),
       omega (arith, t .1, inv .1),
       drop-set-lt (c .loop-n .n + 1) (c .loop-n .report) (c .loop-n .n) (c .in-Some .done .row) (omega arith) ∙ drop-later (c .loop-n .report) (c .args .report .now) (c .loop-n .n) (c .loop-n .n + 1) (omega arith) (inv .2),
       drop-later (c .step .last .opp) (c .loop-n .opp) (c .loop-n .stand) (c .args .used) (inv .1) (t .2) ∙ inv .3,
@@ -24,8 +25,9 @@ loop-n-again g c =
 pub returns-in-None : need.returns-in-None
 returns-in-None g c =
     let t = c .in-None .ensures tt in
+    let n = rw (c .with-open .ensures) at (t .0) in
     let inv = c .loop-n .inv in
-    record { swept = rw (t .1, t .2) (sweep-ends _ _ _ _ (t .0) (inv .0)); used = (inv .1, omega arith); behind = (inv .2, rw (t .1) (inv .3)) }
+    record { swept = rw (t .1, t .2) (sweep-ends _ _ _ _ n (inv .0)); used = (inv .1, omega arith); behind = (inv .2, rw (t .1) (inv .3)) }
 
 pub returns : need.returns
 returns g c =
