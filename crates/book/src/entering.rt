@@ -1,12 +1,15 @@
 // An entry: sent back, or swept against the other side, and its residue rested or cancelled.
 ghost use mathlib.Core.Path.{_≡_};
-ghost use mathlib.Core.Bool.{false};
+ghost use mathlib.Core.Bool.{true, false};
 ghost use Prim.Native.Nat.{ℕ, _+_, _≤_, _<_};
 ghost use lib.ListN.{length, take, drop};
+ghost use Rattle.std.specs.declared.option.Option.the-variants.{Some};
+ghost use Rattle.std.specs.declared.result.Result.the-variants.{Ok, Err};
 ghost use Rattle.std.specs.Options.{Cases as BySome};
+ghost use Rattle.board.specs.Quotes.{Quotes};
 ghost use Rattle.rules.specs.Orders.{cancels};
 ghost use Rattle.rules.specs.Sweeps.{standing, swept, with-open, measured-sweep};
-ghost use Rattle.rules.specs.Calls.{cells-ok, cells-refusal, enter-refusal, own-after, entered, decided, outcome, rows-in, rows-kept, terms, enter};
+ghost use Rattle.rules.specs.Calls.{cells-ok, cells-refusal, enter-refusal, own-after, entered, decided, outcome, rows-in, rows-kept, terms, enter, fresh};
 ghost use Rattle.book.specs.Counts.{count-of};
 ghost use Rattle.book.specs.Held.{held};
 use super::book::Book;
@@ -152,5 +155,105 @@ fn answer(left: &Order, rows: usize) -> Accepted
         open,
         cancelled,
         rows,
+    }
+}
+
+impl<R: Ranking + Copy> Book<R> {
+    // Makes a fresh book: its sides are empty.
+    pub fn make(ranking: R, bids: &[Order], offers: &[Order]) -> Result<Book<R>, Refusal>
+        ensures { λ r. ⌜ elim r [ Ok k ↦ (cells-ok (length (now (bids .entry))) (length (now (offers .entry))) ≡ true) × (k .ranking ≡ ranking) × ((b : Quotes) → held k (now (bids .entry)) (now (offers .entry)) b ≡ fresh b) | Err e ↦ Some e ≡ cells-refusal (length (now (bids .entry))) (length (now (offers .entry))) ] ⌝ }
+    {
+        if !has_cells(bids, offers) {
+            return Err(Refusal::SideCells);
+        }
+        Ok(Book {
+            ranking,
+            bids: 0,
+            offers: 0,
+            arrivals: 0,
+        })
+    }
+
+    // How many orders rest on a side.
+    fn count(&self, side: Side) -> usize
+        ensures value { λ r. ⌜ r ≡ count-of side (now (self .entry) .bids) (now (self .entry) .offers) ⌝ }
+        ensures within { λ r. ⌜ r ≤ 128 ⌝ }
+    {
+        match side {
+            Side::Buy => self.bids,
+            Side::Sell => self.offers,
+        }
+    }
+
+    // Notes an accepted entry and the new counts.
+    fn accept(&mut self, bids: usize, offers: usize)
+        requires { ⌜ bids ≤ 128 ⌝ ∗ ⌜ offers ≤ 128 ⌝ ∗ ⌜ now self .arrivals < 1000000 ⌝ }
+        ensures { λ _. ⌜ (now (self .exit) .ranking ≡ now (self .entry) .ranking) × (now (self .exit) .bids ≡ bids) × (now (self .exit) .offers ≡ offers) × (now (self .exit) .arrivals ≡ now (self .entry) .arrivals + 1) ⌝ }
+    {
+        self.bids = bids;
+        self.offers = offers;
+        self.arrivals += 1;
+    }
+
+    // Enters an order: sends it back, or sweeps, and rests or cancels the residue.
+    pub fn enter<B: Board>(
+        &mut self,
+        side: Side,
+        price: u32,
+        kind: Kind,
+        shares: u32,
+        bids: &mut [Order],
+        offers: &mut [Order],
+        board: &mut B,
+        report: &mut [Row],
+    ) -> Result<Accepted, Refusal>
+        ensures outcome { λ r. ⌜ outcome r (rows-in r (now (report .exit))) (held (now (self .exit)) (now (bids .exit)) (now (offers .exit)) (quotes (now (board .exit)))) ≡ decided (cells-refusal (length (now (bids .entry))) (length (now (offers .entry)))) (held (now (self .entry)) (now (bids .entry)) (now (offers .entry)) (quotes (now (board .entry)))) (enter (terms (ranked (now (self .entry) .ranking))) (held (now (self .entry)) (now (bids .entry)) (now (offers .entry)) (quotes (now (board .entry)))) side price kind shares (length (now (report .entry)))) ⌝ }
+        ensures kept { λ r. ⌜ now (self .exit) .ranking ≡ now (self .entry) .ranking ⌝ }
+        ensures behind { λ r. ⌜ rows-kept r (now (report .entry)) (now (report .exit)) ⌝ }
+    {
+        if !has_cells(bids, offers) {
+            return Err(Refusal::SideCells);
+        }
+        let incoming = Order {
+            arrival: self.arrivals + 1,
+            side,
+            price,
+            kind,
+            size: shares,
+            open: shares,
+        };
+        if let Some(refusal) = refused(&incoming, self.arrivals, self.count(side), report.len()) {
+            return Err(refusal);
+        }
+        match side {
+            Side::Buy => {
+                let t = trade(
+                    self.ranking,
+                    &incoming,
+                    bids,
+                    self.bids,
+                    offers,
+                    self.offers,
+                    board,
+                    report,
+                );
+                self.accept(t.own, t.opp);
+                Ok(answer(&with_open(&incoming, t.open), t.rows))
+            }
+            Side::Sell => {
+                let t = trade(
+                    self.ranking,
+                    &incoming,
+                    offers,
+                    self.offers,
+                    bids,
+                    self.bids,
+                    board,
+                    report,
+                );
+                self.accept(t.opp, t.own);
+                Ok(answer(&with_open(&incoming, t.open), t.rows))
+            }
+        }
     }
 }

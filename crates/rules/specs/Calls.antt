@@ -42,6 +42,10 @@ pub record Market : Type 0 where
 abbrev pub market : List Order → List Order → Quotes → ℕ → Market
 market bids offers b n = record { bids = bids; offers = offers; quotes = b; arrivals = n }
 
+-- a fresh book over these quotations: nothing rests, and no entry was accepted
+abbrev pub fresh : Quotes → Market
+fresh b = market [] [] b 0
+
 -- what a book was made with
 pub record Terms : Type 0 where
   pub ranking : Ranking
