@@ -1,3 +1,4 @@
 mod Loops
 mod Steps
 mod Entries
+mod Changes

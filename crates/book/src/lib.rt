@@ -1,5 +1,6 @@
 // The book of one security: who may trade, the sweep, and the calls.
 pub mod book;
+mod changing;
 mod eligible;
 mod entering;
 mod kinds;

@@ -201,20 +201,24 @@ cut-down n o = record { arrival = o .arrival; side = o .side; price = o .price; 
 abbrev pub taken-off : Market → Located → Market
 taken-off m l = with-side (l .side) (removed (of-side (l .side) m) (l .place)) m
 
--- a smaller ranking size may stand elsewhere, so it is taken out and put in again
+-- an order put where it belongs on a side
+abbrev pub put-on : Ranking → Side → Order → Market → Market
+put-on ranking side o m = with-side side (put-in (before ranking side) o (of-side side m)) m
+
+-- a smaller ranking size may stand elsewhere, so the order is taken out and put in again
 abbrev pub moved : Terms → Market → Located → ℕ → Market
-moved t m l n =
-    with-side (l .side) (put-in (before (t .ranking) (l .side)) (cut-down n (l .order)) (removed (of-side (l .side) m) (l .place))) m
+moved t m l n = put-on (t .ranking) (l .side) (cut-down n (l .order)) (taken-off m l)
 
 abbrev pub cancelled : Market → Option Located → Outcome
 cancelled m None = outcome (Err NotResting) [] m
 cancelled m (Some l) = outcome (Ok (accepted (l .order .arrival) 0 (l .order .«open») 0)) [] (taken-off m l)
 
+abbrev pub cut-stayed : Terms → Market → Located → ℕ → Outcome
+cut-stayed t m l n = outcome (Ok (accepted (l .order .arrival) (l .order .«open» - n) n 0)) [] (moved t m l n)
+
 abbrev pub cut-to : Terms → Market → Option Located → ℕ → Outcome
 cut-to t m None n = outcome (Err NotResting) [] m
-cut-to t m (Some l) n =
-    cond (leaves n (l .order)) (cancelled m (Some l))
-    (outcome (Ok (accepted (l .order .arrival) (l .order .«open» - n) n 0)) [] (moved t m l n))
+cut-to t m (Some l) n = cond (leaves n (l .order)) (cancelled m (Some l)) (cut-stayed t m l n)
 
 unfoldable pub cancel : Market → ℕ → Outcome
 cancel m k = decided (cancel-refusal (at-rest k m)) m (cancelled m (at-rest k m))
