@@ -11,7 +11,7 @@ ghost use Rattle.rules.specs.Orders.{cancels};
 ghost use Rattle.rules.specs.Sweeps.{standing, swept, with-open, measured-sweep};
 ghost use Rattle.rules.specs.Calls.{cells-ok, cells-refusal, enter-refusal, own-after, entered, decided, outcome, rows-in, rows-kept, terms, enter, fresh};
 ghost use Rattle.book.specs.Counts.{count-of};
-ghost use Rattle.book.specs.Held.{held};
+ghost use Rattle.book.specs.Held.{held, cells-kept};
 use super::book::Book;
 use super::kinds::is_cancelled;
 use super::kinds::is_ilo;
@@ -208,8 +208,8 @@ impl<R: Ranking + Copy> Book<R> {
         report: &mut [Row],
     ) -> Result<Accepted, Refusal>
         ensures outcome { λ r. ⌜ outcome r (rows-in r (now (report .exit))) (held (now (self .exit)) (now (bids .exit)) (now (offers .exit)) (quotes (now (board .exit)))) ≡ decided (cells-refusal (length (now (bids .entry))) (length (now (offers .entry)))) (held (now (self .entry)) (now (bids .entry)) (now (offers .entry)) (quotes (now (board .entry)))) (enter (terms (ranked (now (self .entry) .ranking))) (held (now (self .entry)) (now (bids .entry)) (now (offers .entry)) (quotes (now (board .entry)))) side price kind shares (length (now (report .entry)))) ⌝ }
-        ensures kept { λ r. ⌜ now (self .exit) .ranking ≡ now (self .entry) .ranking ⌝ }
-        ensures behind { λ r. ⌜ rows-kept r (now (report .entry)) (now (report .exit)) ⌝ }
+        ensures cells { λ r. ⌜ cells-kept r (now (self .entry)) (now (self .exit)) (now (bids .entry)) (now (bids .exit)) (now (offers .entry)) (now (offers .exit)) ⌝ }
+        ensures rows { λ r. ⌜ rows-kept r (now (report .entry)) (now (report .exit)) ⌝ }
     {
         if !has_cells(bids, offers) {
             return Err(Refusal::SideCells);

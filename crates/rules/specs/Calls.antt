@@ -255,6 +255,9 @@ lit m = any-program (m .bids) || any-program (m .offers)
 abbrev pub standing-row : Side → Order → Standing
 standing-row side o = record { arrival = o .arrival; side = side; price = o .price; «open» = o .«open» }
 
+abbrev pub list-refusal : ℕ → ℕ → ℕ → Option Refusal
+list-refusal bids offers room = first-case ((SideCells, not (cells-ok bids offers)) ∷ (ShortReport, ltb room 256) ∷ [])
+
 abbrev pub standing-rows : Market → List Standing
 standing-rows m = map (standing-row Buy) (m .bids) ++ map (standing-row Sell) (m .offers)
 

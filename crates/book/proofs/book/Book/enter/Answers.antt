@@ -1,12 +1,13 @@
 use mathlib.Core.Path.{_≡_, refl, sym, ap, _∙_}
 use native.Mathlib.Omega.{arith}
-use Prim.Native.Nat.{_+_, _≤_}
+use Prim.Native.Nat.{_+_, _≤_, max}
 use lib.ListN.{take, length}
 use Rattle.std.proofs.shelf.Lists.{length-take-le}
 use Rattle.std.proofs.shelf.Ways.{tells}
 use Rattle.rules.specs.Calls.{market, terms, entered}
 use Rattle.book.specs.Held.{held}
 use Rattle.book.proofs.Entries.{own-count, enter-refused, enter-left, cells-pass}
+use Rattle.book.proofs.Steps.{drop-later}
 use Rattle.book.proofs.book.Book.enter.Needs as need
 
 pub returns-in-Some : need.returns-in-Some
@@ -18,7 +19,7 @@ returns-in-Some g c =
     let long : (128 ≡ length (c .args .bids .now)) × (128 ≡ length (c .args .offers .now)) = grind (arith, tells) in
     let n = own-count (c .args .side) (k .bids) (k .offers) (k .arrivals) (c .args .bids .now) (c .args .offers .now) b (omega (arith, k .within)) (omega (arith, k .within)) in
     let f = enter-refused (terms (g .R·Ranking .ranked (k .ranking))) m (c .args .side) (c .args .price) (c .args .kind) (c .args .shares) (length (c .args .report .now)) _ _ (n ∙ sym (c .count .ensures .value)) (c .in-Some .ensures tt .value) in
-    record { outcome = sym f ∙ cells-pass (length (c .args .bids .now)) (length (c .args .offers .now)) m _ e; kept = refl; behind = refl }
+    record { outcome = sym f ∙ cells-pass (length (c .args .bids .now)) (length (c .args .offers .now)) m _ e; cells = (refl, refl, refl); rows = refl }
 
 pub returns-in-Buy : need.returns-in-Buy
 returns-in-Buy g c =
@@ -42,8 +43,8 @@ returns-in-Buy g c =
     let w = c .answer .ensures ∙ ap (λ o. entered o (t .result .rows)) (c .with-open .ensures) in
     record {
       outcome = rw (w, a .1, a .2, a .3) (f ∙ cells-pass (length (c .args .bids .now)) (length (c .args .offers .now)) m _ e);
-      kept = a .0;
-      behind = rw w (t .ensures .behind .0);
+      cells = (a .0, rw (a .1) (drop-later (t .last .own) (c .args .bids .now) (t .result .own) (max (k .bids) (t .result .own)) (omega arith) (t .ensures .behind .2)), rw (a .2) (drop-later (t .last .opp) (c .args .offers .now) (k .offers) (max (k .offers) (t .result .opp)) (omega arith) (t .ensures .behind .1)));
+      rows = rw w (t .ensures .behind .0);
     }
 
 pub returns-in-Sell : need.returns-in-Sell
@@ -68,6 +69,6 @@ returns-in-Sell g c =
     let w = c .answer-in-Sell .ensures ∙ ap (λ o. entered o (t .result .rows)) (c .with-open-in-Sell .ensures) in
     record {
       outcome = rw (w, a .1, a .2, a .3) (f ∙ cells-pass (length (c .args .bids .now)) (length (c .args .offers .now)) m _ e);
-      kept = a .0;
-      behind = rw w (t .ensures .behind .0);
+      cells = (a .0, rw (a .1) (drop-later (t .last .opp) (c .args .bids .now) (k .bids) (max (k .bids) (t .result .opp)) (omega arith) (t .ensures .behind .1)), rw (a .2) (drop-later (t .last .own) (c .args .offers .now) (t .result .own) (max (k .offers) (t .result .own)) (omega arith) (t .ensures .behind .2)));
+      rows = rw w (t .ensures .behind .0);
     }
