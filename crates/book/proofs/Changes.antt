@@ -8,12 +8,15 @@ use lib.Dec.{eqb, ltb}
 use Rattle.std.specs.Holes.{removed}
 use Rattle.std.specs.declared.option.Option.{Option}
 use Rattle.std.specs.declared.option.Option.the-variants.{Some, None}
+use Rattle.std.specs.declared.result.Result.{Result}
 use Rattle.std.specs.declared.result.Result.the-variants.{Ok, Err}
 use Rattle.market.specs.declared.types.Side.{Side}
+use Rattle.market.specs.declared.types.Refusal.{Refusal}
 use Rattle.market.specs.declared.types.Refusal.the-variants.{NotResting, CutShares}
+use Rattle.board.specs.Quotes.{Quotes, post-answer, posted, with-quote, if-ok}
 use Rattle.rules.specs.declared.types.Order.{Order}
 use Rattle.rules.specs.declared.types.Located.{Located}
-use Rattle.rules.specs.Calls.{Market, Terms, Outcome, of-side, with-side, taken-off, at-rest, outcome, decided, cancel-refusal, cancelled, cancel, cut-refusal, cut-to, cut-stayed, cut, leaves}
+use Rattle.rules.specs.Calls.{Market, Terms, Outcome, of-side, with-side, taken-off, at-rest, outcome, decided, cancel-refusal, cancelled, cancel, cut-refusal, cut-to, cut-stayed, cut, leaves, market, post-accepted, post}
 use Rattle.book.specs.Held.{same-behind}
 use Rattle.book.proofs.Steps.{drop-later}
 
@@ -57,3 +60,10 @@ module _ (t : Terms) (m : Market) (k n : ℕ) where
 
   pub cut-stays : (l : Located) → Some l ≡ at-rest k m → (eqb n 0 || ltb (l .order .«open») n) ≡ false → false ≡ leaves n (l .order) → cut-stayed t m l n ≡ cut t m k n
   cut-stays l e r f = ap (λ b. cond b (cancelled m (Some l)) (cut-stayed t m l n)) f ∙ cut-passes l e r
+
+-- a post by what the board answered and left
+pub post-by : (m : Market) (k : ℕ) (side : Side) (price shares : ℕ) (r : Result Unit Refusal) (b : Quotes) → r ≡ post-answer k price shares → b ≡ if-ok r (with-quote (m .quotes) side k (posted price shares)) (m .quotes) → outcome (post-accepted r) [] (market (m .bids) (m .offers) b (m .arrivals)) ≡ post m k side price shares
+unfolding post
+post-by m k side price shares r b e f =
+    ap (λ x. outcome (post-accepted r) [] (market (m .bids) (m .offers) x (m .arrivals))) f
+    ∙ ap (λ x. outcome (post-accepted x) [] (market (m .bids) (m .offers) (if-ok x (with-quote (m .quotes) side k (posted price shares)) (m .quotes)) (m .arrivals))) e

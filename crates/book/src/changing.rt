@@ -2,10 +2,11 @@
 ghost use mathlib.Core.Path.{_≡_};
 ghost use Prim.Native.Nat.{ℕ, _≤_, _<_};
 ghost use lib.ListN.{length, take};
-ghost use mathlib.Core.List.{[]};
+ghost use mathlib.Core.List.{List, []};
 ghost use Rattle.std.specs.Slices.{found};
 ghost use Rattle.board.specs.Quotes.{Quotes};
-ghost use Rattle.rules.specs.Calls.{located, leaves, cut-down, taken-off, put-on, cells-refusal, decided, outcome, terms, cancel, cut};
+ghost use Rattle.rules.specs.declared.types.Row.{Row};
+ghost use Rattle.rules.specs.Calls.{located, leaves, cut-down, taken-off, put-on, cells-refusal, decided, outcome, terms, cancel, cut, rows-in, rows-kept};
 ghost use Rattle.book.specs.Counts.{count-of, side-of};
 ghost use Rattle.book.specs.Held.{held, cells-kept, same-behind};
 use super::book::Book;
@@ -50,8 +51,7 @@ pub(crate) fn locate(arrival: u32, bids: &[Order], offers: &[Order]) -> Option<L
 fn leaves(order: &Order, shares: u32) -> bool
     ensures { λ r. ⌜ r ≡ leaves shares (now (order .entry)) ⌝ }
 {
-    order.open <= shares
-        || is_too_small(order.kind, order.price, order.size.saturating_sub(shares))
+    order.open <= shares || is_too_small(order.kind, order.price, order.size.saturating_sub(shares))
 }
 
 // An order with shares cut off what is open and off its ranking size alike.
@@ -137,6 +137,7 @@ impl<R: Ranking + Copy> Book<R> {
     ) -> Result<Accepted, Refusal>
         ensures outcome { λ r. ⌜ ((b : Quotes) → outcome r [] (held (now (self .exit)) (now (bids .exit)) (now (offers .exit)) b) ≡ decided (cells-refusal (length (now (bids .entry))) (length (now (offers .entry)))) (held (now (self .entry)) (now (bids .entry)) (now (offers .entry)) b) (cancel (held (now (self .entry)) (now (bids .entry)) (now (offers .entry)) b) arrival)) ⌝ }
         ensures cells { λ r. ⌜ cells-kept r (now (self .entry)) (now (self .exit)) (now (bids .entry)) (now (bids .exit)) (now (offers .entry)) (now (offers .exit)) ⌝ }
+        ensures rows { λ r. ⌜ ((report : List Row) → (rows-in r report ≡ []) × rows-kept r report report) ⌝ }
     {
         if !has_cells(bids, offers) {
             return Err(Refusal::SideCells);
@@ -159,6 +160,7 @@ impl<R: Ranking + Copy> Book<R> {
     ) -> Result<Accepted, Refusal>
         ensures outcome { λ r. ⌜ ((b : Quotes) → outcome r [] (held (now (self .exit)) (now (bids .exit)) (now (offers .exit)) b) ≡ decided (cells-refusal (length (now (bids .entry))) (length (now (offers .entry)))) (held (now (self .entry)) (now (bids .entry)) (now (offers .entry)) b) (cut (terms (ranked (now (self .entry) .ranking))) (held (now (self .entry)) (now (bids .entry)) (now (offers .entry)) b) arrival shares)) ⌝ }
         ensures cells { λ r. ⌜ cells-kept r (now (self .entry)) (now (self .exit)) (now (bids .entry)) (now (bids .exit)) (now (offers .entry)) (now (offers .exit)) ⌝ }
+        ensures rows { λ r. ⌜ ((report : List Row) → (rows-in r report ≡ []) × rows-kept r report report) ⌝ }
     {
         if !has_cells(bids, offers) {
             return Err(Refusal::SideCells);

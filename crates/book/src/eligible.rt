@@ -100,13 +100,7 @@ fn passes_four(incoming: &Order, bests: &Bests, resting: &Order) -> bool
         && is_unbarred(incoming, bests, resting.price)
 }
 
-fn may_trade(
-    incoming: &Order,
-    bests: &Bests,
-    own: &[Order],
-    opp: &[Order],
-    resting: &Order,
-) -> bool
+fn may_trade(incoming: &Order, bests: &Bests, own: &[Order], opp: &[Order], resting: &Order) -> bool
     ensures { λ r. ⌜ r ≡ passes (now (incoming .entry)) (asked (now (bests .entry))) (now (own .entry)) (now (opp .entry)) (now (resting .entry)) ⌝ }
 {
     passes_four(incoming, bests, resting) && is_behind_displayed(incoming, own, opp, resting)

@@ -124,14 +124,7 @@ fn trade<R: Ranking + Copy, B: Board>(
     ensures counts { λ r. ⌜ (r .own ≤ length (now (own .entry))) × (r .opp ≤ «opp_count») × (r .rows ≤ 144) ⌝ }
     ensures behind { λ r. ⌜ (drop (r .rows) (now (report .exit)) ≡ drop (r .rows) (now (report .entry))) × (drop «opp_count» (now (opp .exit)) ≡ drop «opp_count» (now (opp .entry))) × (drop (r .own) (now (own .exit)) ≡ drop (r .own) (now (own .entry))) ⌝ }
 {
-    let swept = measured_sweep(
-        incoming,
-        board,
-        &own[0..own_count],
-        opp,
-        opp_count,
-        report,
-    );
+    let swept = measured_sweep(incoming, board, &own[0..own_count], opp, opp_count, report);
     let left = with_open(incoming, swept.open);
     Traded {
         open: swept.open,

@@ -77,10 +77,22 @@ pub fn is_cancelled(kind: Kind) -> bool
 // Which kinds meet: a row for each kind of the incoming order, displayed, dark, OLO and ILO, and in
 // it an entry for each kind of the resting one.
 const KINDS_MEET: [bool; 16] = [
-    true, true, false, true, // displayed
-    true, true, false, true, // dark
-    false, false, false, true, // OLO
-    true, true, true, true, // ILO
+    true,
+    true,
+    false,
+    true, // displayed
+    true,
+    true,
+    false,
+    true, // dark
+    false,
+    false,
+    false,
+    true, // OLO
+    true,
+    true,
+    true,
+    true, // ILO
 ];
 
 fn kind_row(kind: Kind) -> usize

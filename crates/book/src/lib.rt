@@ -1,4 +1,5 @@
 // The book of one security: who may trade, the sweep, and the calls.
+mod applying;
 mod asking;
 pub mod book;
 mod changing;

@@ -120,15 +120,15 @@ arriving m side price kind shares = new-order (m .arrivals + 1) side price kind 
 unfoldable pub enter-refusal : Order → ℕ → ℕ → ℕ → Option Refusal
 enter-refusal i arrivals count room =
     first-case (
-      (ShortReport, ltb room 144)
-      ∷ (Price, not (in-range (i .price)))
-      ∷ (Shares, not (in-range (i .size)))
-      ∷ (SmallOlo, is-olo (i .kind) && too-small (i .kind) (i .price) (i .size))
-      ∷ (SmallIlo, is-ilo (i .kind) && too-small (i .kind) (i .price) (i .size))
-      ∷ (LargeMtv, ltb (i .size) (mtv-of (i .kind)))
-      ∷ (ArrivalsSpent, leb 1000000 arrivals)
-      ∷ (SideFull, not (cancels (i .kind)) && leb 128 count)
-      ∷ [])
+    (ShortReport, ltb room 144)
+    ∷ (Price, not (in-range (i .price)))
+    ∷ (Shares, not (in-range (i .size)))
+    ∷ (SmallOlo, is-olo (i .kind) && too-small (i .kind) (i .price) (i .size))
+    ∷ (SmallIlo, is-ilo (i .kind) && too-small (i .kind) (i .price) (i .size))
+    ∷ (LargeMtv, ltb (i .size) (mtv-of (i .kind)))
+    ∷ (ArrivalsSpent, leb 1000000 arrivals)
+    ∷ (SideFull, not (cancels (i .kind)) && leb 128 count)
+    ∷ [])
 
 -- the residue rests, or it is cancelled, or nothing is left
 abbrev pub rests : Order → Bool

@@ -35,9 +35,9 @@ module _ {X : Type 0} where
       cond-both (p x) (Some (record { place = n; item = x })) (first p xs (suc n)) (λ r. Some c ≡ r → c .place < n + suc (length xs))
       (λ _ f. let g : c .place ≡ n = ap place-of f in omega arith)
       (λ _ f. let g = h f in omega arith) e where
-    place-of : Option (Placed X) → ℕ
-    place-of None = 0
-    place-of (Some k) = k .place
+        place-of : Option (Placed X) → ℕ
+        place-of None = 0
+        place-of (Some k) = k .place
 
   pub nth-here : (xs : List X) (n : ℕ) (d : X) → n < length xs → nth n xs ≡ Some (getD xs n d)
   nth-here [] n d h = absurd (omega arith)

@@ -13,8 +13,7 @@ loop-i-again c =
     let i = c .loop-i .i in
     let at = c .args .at in
     let k : at + i < length (c .loop-i .rows) = omega arith in
-    let x = c .standing-row .result in
-    (
+    let x = c .standing-row .result in (
       rows-more (c .args .side) (c .args .orders .now) (c .args .rows .now) (c .loop-i .rows) at i _ x (c .standing-row .ensures) (c .loop-i-test .taken) k (c .loop-i .inv .0),
       drop-set-lt (at + (i + 1)) (c .loop-i .rows) (at + i) x (omega arith) ∙ drop-later (c .loop-i .rows) (c .args .rows .now) (at + i) (at + (i + 1)) (omega arith) (c .loop-i .inv .1),
     )

@@ -15,7 +15,7 @@ returns-in-rest g c =
     let m = held k (c .args .bids .now) (c .args .offers .now) in
     let e = c .if-not-has-cells .ensures tt in
     let at = simp sub-zero at (c .in-rest .ensures tt .value) in
-    record { outcome = λ b. cancel-none (m b) (c .args .arrival) at ∙ cells-pass (length (c .args .bids .now)) (length (c .args .offers .now)) (m b) _ e; cells = (refl, refl, refl) }
+    record { outcome = λ b. cancel-none (m b) (c .args .arrival) at ∙ cells-pass (length (c .args .bids .now)) (length (c .args .offers .now)) (m b) _ e; cells = (refl, refl, refl); rows = λ _. (refl, refl) }
 
 pub returns : need.returns
 returns g c =
@@ -30,4 +30,5 @@ returns g c =
           ∙ cancel-some (m b) (c .args .arrival) (c .in-Some .at) at
           ∙ cells-pass (length (c .args .bids .now)) (length (c .args .offers .now)) (m b) _ e;
       cells = (t .ranking, t .bids, t .offers);
+      rows = λ report. rw (c .gone .ensures) (refl, refl);
     }

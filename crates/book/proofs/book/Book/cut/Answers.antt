@@ -22,7 +22,7 @@ returns-in-rest g c =
     let m = held k (c .args .bids .now) (c .args .offers .now) in
     let e = c .if-not-has-cells .ensures tt in
     let at = simp sub-zero at (c .in-rest .ensures tt .value) in
-    record { outcome = λ b. cut-none (terms (g .R·Ranking .ranked (k .ranking))) (m b) (c .args .arrival) (c .args .shares) at ∙ cells-pass (length (c .args .bids .now)) (length (c .args .offers .now)) (m b) _ e; cells = (refl, refl, refl) }
+    record { outcome = λ b. cut-none (terms (g .R·Ranking .ranked (k .ranking))) (m b) (c .args .arrival) (c .args .shares) at ∙ cells-pass (length (c .args .bids .now)) (length (c .args .offers .now)) (m b) _ e; cells = (refl, refl, refl); rows = λ _. (refl, refl) }
 
 pub returns-then-shares-eq0 : need.returns-then-shares-eq0
 returns-then-shares-eq0 g c =
@@ -32,7 +32,7 @@ returns-then-shares-eq0 g c =
     let at = simp sub-zero at (c .in-Some .ensures tt .value) in
     let o = c .then-shares-eq0 .either in
     let r : (eqb (c .args .shares) 0 || ltb (c .in-Some .at .order .«open») (c .args .shares)) ≡ true = grind (arith, tells) in
-    record { outcome = λ b. cut-refused (terms (g .R·Ranking .ranked (k .ranking))) (m b) (c .args .arrival) (c .args .shares) (c .in-Some .at) at r ∙ cells-pass (length (c .args .bids .now)) (length (c .args .offers .now)) (m b) _ e; cells = (refl, refl, refl) }
+    record { outcome = λ b. cut-refused (terms (g .R·Ranking .ranked (k .ranking))) (m b) (c .args .arrival) (c .args .shares) (c .in-Some .at) at r ∙ cells-pass (length (c .args .bids .now)) (length (c .args .offers .now)) (m b) _ e; cells = (refl, refl, refl); rows = λ _. (refl, refl) }
 
 pub returns-then-leaves : need.returns-then-leaves
 returns-then-leaves g c =
@@ -48,6 +48,7 @@ returns-then-leaves g c =
           ∙ cut-leaves (terms (g .R·Ranking .ranked (k .ranking))) (m b) (c .args .arrival) (c .args .shares) (c .in-Some .at) at r (c .if-leaves .ensures tt)
           ∙ cells-pass (length (c .args .bids .now)) (length (c .args .offers .now)) (m b) _ e;
       cells = (t .ranking, t .bids, t .offers);
+      rows = λ report. rw (c .gone .ensures) (refl, refl);
     }
 
 pub returns : need.returns
@@ -76,4 +77,5 @@ returns g c =
         behind-twice (c .args .bids .now) (c .take-off .last .bids) (c .put-on .last .bids) (k .bids) (c .take-off .last .self .bids) (c .put-on .last .self .bids) (t .fewer .0) (t .bids) (u .bids),
         behind-twice (c .args .offers .now) (c .take-off .last .offers) (c .put-on .last .offers) (k .offers) (c .take-off .last .self .offers) (c .put-on .last .self .offers) (t .fewer .1) (t .offers) (u .offers),
       );
+      rows = λ _. (refl, refl);
     }

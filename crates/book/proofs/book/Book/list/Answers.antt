@@ -34,8 +34,7 @@ returns g c b =
     let o = simp sub-zero at (two .ensures .value) in
     let fits : two .result ≤ length (two .last .rows) = omega (arith, n, o, bids, offers, k .within) in
     let enough : ltb (length (c .args .rows .now)) 256 ≡ false = grind (arith, tells) in
-    let later = drop-later (one .last .rows) (c .args .rows .now) (one .result) (two .result) (omega (arith, o)) (one .ensures .behind) in
-    (
+    let later = drop-later (one .last .rows) (c .args .rows .now) (one .result) (two .result) (omega (arith, o)) (one .ensures .behind) in (
       sym (length-take-le (two .result) (two .last .rows) fits) ∙ ap length written,
       subst (λ xs. Shuffled xs (take (two .result) (two .last .rows))) written (shuffled-refl (take (two .result) (two .last .rows))),
       two .ensures .behind ∙ later,
