@@ -1,3 +1,6 @@
 mod Scans
 mod Words
 mod Entries
+mod Spacing
+mod Values
+mod Reading
