@@ -4,3 +4,5 @@ mod Entries
 mod Spacing
 mod Values
 mod Reading
+mod LayingOut
+mod Laws

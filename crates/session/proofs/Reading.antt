@@ -300,18 +300,22 @@ new-called ws p =
     let b = began kind-letter kind-letter-bytes Any (λ w k e. (tt, kind-letter-is w k e)) want.Kind sided refl (λ w. refl) (a .rest) (a .passed) in
     let (k, l, e, o) = ordered (b .value) (b .rest) (b .passed) in
     let (s, q, n, h, i, f) = o in
-    let g : b .rest ≡ side-bytes s ∷ decimal q ∷ decimal n ∷ ilo-words k = f in
-    (New (a .value) s q k n, (a .good, h, l, i),
-      ap (λ r. letter-bytes letter.New ∷ r) (a .is ∙ ap (λ r. a .value ∷ r) (b .is ∙ ap (λ r. kind-letter-bytes (b .value) ∷ r) g ∙ ap (λ w. w ∷ side-bytes s ∷ decimal q ∷ decimal n ∷ ilo-words k) (sym e))))
+    let g : b .rest ≡ side-bytes s ∷ decimal q ∷ decimal n ∷ ilo-words k = f in (
+      New (a .value) s q k n,
+      (a .good, h, l, i),
+      ap (λ r. letter-bytes letter.New ∷ r) (a .is ∙ ap (λ r. a .value ∷ r) (b .is ∙ ap (λ r. kind-letter-bytes (b .value) ∷ r) g ∙ ap (λ w. w ∷ side-bytes s ∷ decimal q ∷ decimal n ∷ ilo-words k) (sym e))),
+    )
   where
     labelled : List ℕ → Result (List ℕ) Fault
     labelled w = cond (is-label w) (Ok w) (Err BadLabel)
+
     labelled-is : (w a : List ℕ) → labelled w ≡ Ok a → (is-label a ≡ true) × (w ≡ a)
     labelled-is w a e =
         by-test (is-label w) (λ b. _≡_ {A = Result (List ℕ) Fault} (cond b (Ok w) (Err BadLabel)) (Ok a) → (is-label a ≡ true) × (w ≡ a))
         (λ t h. let j : w ≡ a = cc in (ap is-label (sym j) ∙ t, j))
         (λ t h. absurd (let z : _≡_ {A = ℕ} 0 1 = cc in omega arith))
         e
+
     how : (w : List ℕ) → after want.Label w ≡ then (labelled w) (λ _. want.Kind)
     how w = by-test (is-label w) (λ b. _≡_ {A = Result Wanted Fault} (cond b (Ok want.Kind) (Err BadLabel)) (then {A = List ℕ} (cond b (Ok w) (Err BadLabel)) (λ _. want.Kind))) (λ t. refl) (λ t. refl)
 

@@ -61,9 +61,9 @@ number-decimal n h =
     let s = decimal-some n b in
     let l : length (decimal n) ≤ 7 = length-decimal-le 7 n (omega arith) (omega arith) b in
     let f : 1 < length (decimal n) → getD (decimal n) 0 0 ≡ 48 → ⊥ = λ k z. ⊎-elim
-        (λ (p : 0 < n). let q = first-decimal n p b in omega arith)
-        (λ (p : n ≤ 0). let q = ap length (decimal-digit n (omega arith)) in omega arith)
-        (cases-lt 0 n) in
+    (λ (p : 0 < n). let q = first-decimal n p b in omega arith)
+    (λ (p : n ≤ 0). let q = ap length (decimal-digit n (omega arith)) in omega arith)
+    (cases-lt 0 n) in
     tests-pass (length (decimal n)) (getD (decimal n) 0 0) (every (belongs Digits) (decimal n)) (figure 0 (decimal n)) s l d f ∙ ap (λ (x : ℕ). Ok x) v
 
 -- and there is no other

@@ -1,8 +1,11 @@
 // Session files: reading one, body by body, and what is wrong with one that is refused.
 ghost use mathlib.Core.Path.{_≡_};
+ghost use mathlib.Core.List.{List};
 ghost use Prim.Native.Nat.{_≤_};
+ghost use Rattle.shelf.specs.Standing.{nth};
 ghost use Rattle.session.specs.Files.{checked, line-at, count-of, refused, wrong-body};
-ghost use Rattle.session.specs.Lines.{line-in};
+ghost use Rattle.session.specs.Lines.{Line, line-in};
+ghost use Rattle.session.specs.Written.{file-bytes, Fitting, Answered, Reads-back, Only-written, One-reading};
 
 mod bodies;
 mod contents;
@@ -57,7 +60,8 @@ fn check_bodies(file: &[u8], count: usize) -> Result<usize, Refusal>
 
 // The count of the bodies of a session file, or why the file is refused.
 pub fn check_file(file: &[u8]) -> Result<usize, Refusal>
-    ensures { λ r. ⌜ r ≡ checked (now (file .entry)) ⌝ }
+    ensures value { λ r. ⌜ r ≡ checked (now (file .entry)) ⌝ }
+    ensures written { λ r. ⌜ Answered (now (file .entry)) r ⌝ }
 {
     if is_wrong_size(file) {
         return Err(Refusal::FileSize);
@@ -73,10 +77,21 @@ pub fn check_file(file: &[u8]) -> Result<usize, Refusal>
 
 // The body of an index, if there is one and it can be read.
 pub fn body_at(file: &[u8], index: usize) -> Option<Body<'_>>
-    ensures { λ r. ⌜ line-in r ≡ line-at (now (file .entry)) index ⌝ }
+    ensures value { λ r. ⌜ line-in r ≡ line-at (now (file .entry)) index ⌝ }
+    ensures written { λ r. ⌜ ((lines : List Line) → Fitting lines → now (file .entry) ≡ file-bytes lines → line-in r ≡ nth index lines) ⌝ }
 {
     if index >= count(file) {
         return None;
     }
     read_body(body(file, index))
+}
+
+// What reading has to do with writing: lines that fit, written out, read back as themselves, no
+// other file is accepted, and no file says two lists of lines.
+pub fn reading_laws() -> u8
+    ensures back { λ _. ⌜ Reads-back ⌝ }
+    ensures only { λ _. ⌜ Only-written ⌝ }
+    ensures one { λ _. ⌜ One-reading ⌝ }
+{
+    0
 }
