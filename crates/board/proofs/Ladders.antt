@@ -1,11 +1,11 @@
 -- What a ladder's sides keep, that there is always room, and that the first level is the best. Assumes nothing.
 use mathlib.Core.Path.{_≡_, refl, sym, ap, _∙_, subst, fun-ext}
-use mathlib.Core.Bool.{Bool, true, false, cond, not, _&&_}
+use mathlib.Core.Bool.{true, false, not, _&&_}
 use mathlib.Core.Logic.{_⊎_, inl, inr, ⊎-elim}
 use mathlib.Core.List.{List, [], _∷_}
-use Prim.Native.Nat.{ℕ, zero, suc, _+_, _≤_, _<_}
+use Prim.Native.Nat.{ℕ, zero, suc, _≤_, _<_}
 use native.Mathlib.Omega.{arith}
-use lib.Dec.{eqb, ltb}
+use lib.Dec.{eqb}
 use lib.ListN.{length}
 use Rattle.std.specs.declared.option.Option.{Option}
 use Rattle.std.specs.declared.option.Option.the-variants.{Some, None}
@@ -13,16 +13,17 @@ use Rattle.std.specs.shelf.Lists.{All}
 use Rattle.std.specs.shelf.Lawful.{all-pass}
 use Rattle.std.specs.Holes.{removed}
 use Rattle.std.proofs.shelf.Elements.{all-weaker}
-use Rattle.std.proofs.shelf.Tests.{cases-eq, cases-bool, eq-eqb, ne-eqb, eqb-true, eqb-false, cond-true, cond-false, cond-both, and-parts, and-from, both-ways}
+use Rattle.std.proofs.shelf.Tests.{cases-eq, eq-eqb, ne-eqb, eqb-true, eqb-false, cond-true, cond-false, cond-both, and-parts, and-from, both-ways}
 use Rattle.std.proofs.shelf.Ways.{tells}
 use Rattle.market.specs.declared.types.Side.{Side}
 use Rattle.market.specs.declared.types.Side.the-variants.{Buy, Sell}
-use Rattle.market.specs.Words.{same-side, better, in-range}
+use Rattle.market.specs.Words.{same-side, better}
 use Rattle.shelf.specs.declared.types.Placed.{Placed}
-use Rattle.shelf.specs.Order.{Total, Pairwise, Sorted, Distinct}
+use Rattle.shelf.specs.Order.{Total, Sorted, Distinct}
 use Rattle.shelf.specs.Standing.{first, first-at, put-in}
 use Rattle.shelf.proofs.Lex.{strict-up, strict-down, Strict, by-label, lex-total}
-use Rattle.shelf.proofs.Sorting.{all-put-in, length-put-in, all-removed, pairwise-removed, put-sorted}
+use Rattle.shelf.proofs.Searches.{found-place}
+use Rattle.shelf.proofs.Sorting.{all-put-in, distinct-put, all-removed, pairwise-removed, put-sorted}
 use Rattle.board.specs.declared.types.Quote.{Quote}
 use Rattle.board.specs.declared.types.Best.{Best}
 use Rattle.board.specs.declared.types.Level.{Level}
@@ -74,11 +75,7 @@ strict-better Sell = strict-up
 over-total : (s : Side) → Total (λ (k : Rung). k .market) (over s)
 over-total s = lex-total _ (λ (k : Rung). k .price) _ _ (strict-better s) (by-label (λ (k : Rung). k .market) _ strict-up)
 
--- a search for a market, and where it stops
-pub found-place : (p : Level → Bool) (xs : List Level) (n : ℕ) (w : Placed Level) → first p xs n ≡ Some w → (w .place ≡ n + first-at p xs) × (first-at p xs < length xs)
-found-place p [] n w e = let z : _≡_ {A = ℕ} 0 1 = cc in absurd (omega arith)
-found-place p (x ∷ xs) n w e = let ih = found-place p xs (suc n) w in (grind (arith, tells, cases-bool (p x)), grind (arith, tells, cases-bool (p x)))
-
+-- what a search for a market tells of its quotation
 pub found-quote : (m : ℕ) (xs : List Level) (n : ℕ) (w : Placed Level) → first (of-market m) xs n ≡ Some w → rail-quote xs m ≡ Some (quote-of (w .item))
 found-quote m [] n w e = let z : _≡_ {A = ℕ} 0 1 = cc in absurd (omega arith)
 found-quote m (x ∷ xs) n w e = let ih = found-quote m xs (suc n) w in grind (arith, tells)
@@ -143,20 +140,13 @@ sound-without s m xs k = record {
   distinct = pairwise-removed _ xs _ (k .distinct);
 }
 
-distinct-put : (s : Side) (x : Level) (xs : List Level) → All (λ (y : Level). x .market ≡ y .market → ⊥) xs → Distinct (λ (y : Level). y .market) xs → Distinct (λ (y : Level). y .market) (put-in (before s) x xs)
-distinct-put s x [] a d = (tt, tt)
-distinct-put s x (y ∷ ys) a d =
-    cond-both (before s x y) (x ∷ y ∷ ys) (y ∷ put-in (before s) x ys) (Distinct (λ (w : Level). w .market))
-    (λ _. (a, d))
-    (λ _. (all-put-in (λ (w : Level). y .market ≡ w .market → ⊥) (before s) x ys (λ i. a .0 (sym i)) (d .0), distinct-put s x ys (a .1) (d .1)))
-
 sound-put : (s : Side) (m : ℕ) (q : Quote) (xs : List Level) → market-ok m ≡ true → quote-ok (Some q) ≡ true → rail-quote xs m ≡ None → Sound s xs → Sound s (put-in (before s) (level-of m q) xs)
 sound-put s m q xs hm hq e k =
     let a = unquoted m xs e in
     record {
       levels = all-put-in (λ x. level-ok x ≡ true) (before s) (level-of m q) xs (and-from _ _ hm hq) (k .levels);
       sorted = put-sorted (λ (r : Rung). r .market) (over s) rung-of (over-total s) (level-of m q) xs a (k .sorted);
-      distinct = distinct-put s (level-of m q) xs a (k .distinct);
+      distinct = distinct-put (λ (x : Level). x .market) (before s) (level-of m q) xs a (k .distinct);
     }
 
 -- levels of different markets 1 to n are n at most: without that of market n, they are of the markets below

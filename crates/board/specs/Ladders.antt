@@ -1,6 +1,6 @@
 -- What stands on a ladder: the order of its levels, the quotation of each market, the best, and what holds of every side.
 -- Rests on Quotes, and on the orders and searches of a shelf.
-use mathlib.Core.Bool.{Bool, true, false, cond, not, _&&_}
+use mathlib.Core.Bool.{Bool, true, cond, not, _&&_}
 use mathlib.Core.List.{List, [], _∷_}
 use Prim.Native.Nat.{ℕ}
 use lib.Dec.{eqb, ltb}
@@ -12,7 +12,7 @@ use Rattle.market.specs.declared.types.Side.{Side}
 use Rattle.market.specs.declared.types.Side.the-variants.{Buy, Sell}
 use Rattle.market.specs.Words.{better, in-range}
 use Rattle.shelf.specs.Order.{lex}
-use Rattle.shelf.specs.Standing.{first-at, put-in}
+use Rattle.shelf.specs.Standing.{first-at}
 use Rattle.board.specs.declared.types.Quote.{Quote}
 use Rattle.board.specs.declared.types.Best.{Best}
 use Rattle.board.specs.declared.types.Level.{Level}

@@ -1,4 +1,5 @@
 mod Shift
-mod Searches
+pub mod Searches
 pub mod Lex
 pub mod Sorting
+mod Runs

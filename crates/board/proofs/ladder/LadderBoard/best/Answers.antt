@@ -1,4 +1,4 @@
-use mathlib.Core.Path.{_≡_, refl, _∙_}
+use mathlib.Core.Path.{refl, _∙_}
 use Rattle.market.specs.declared.types.Side.the-variants.{Buy, Sell}
 use lib.ListN.{take}
 use Rattle.board.specs.Ladders.{ladder-quotes}

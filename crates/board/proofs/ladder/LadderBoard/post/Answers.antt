@@ -1,5 +1,5 @@
-use mathlib.Core.Path.{_≡_, sym, ap, _∙_}
-use Rattle.board.specs.Quotes.{post-answer, posted, with-quote}
+use mathlib.Core.Path.{sym}
+use Rattle.board.specs.Quotes.{post-answer, posted}
 use Rattle.board.proofs.Answers.{answered-ok}
 use Rattle.board.proofs.ladder.LadderBoard.post.Needs as need
 

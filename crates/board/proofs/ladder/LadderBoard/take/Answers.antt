@@ -1,8 +1,7 @@
-use mathlib.Core.Path.{_≡_, sym, ap, _∙_}
-use mathlib.Core.Bool.{true}
+use mathlib.Core.Path.{sym, ap, _∙_}
 use lib.ListN.{take}
 use Rattle.market.specs.declared.types.Side.the-variants.{Buy, Sell}
-use Rattle.board.specs.Quotes.{take-answer, lowered, with-quote, quote-ok}
+use Rattle.board.specs.Quotes.{take-answer, lowered, quote-ok}
 use Rattle.board.proofs.Answers.{answered-ok}
 use Rattle.board.proofs.Ladders.{ladder-lawful, of-side}
 use Rattle.board.proofs.ladder.LadderBoard.take.Needs as need

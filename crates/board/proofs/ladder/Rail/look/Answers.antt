@@ -1,4 +1,4 @@
-use mathlib.Core.Path.{_≡_, sym}
+use mathlib.Core.Path.{sym}
 use Rattle.board.proofs.Ladders.{found-quote, lost-quote}
 use Rattle.board.proofs.ladder.Rail.look.Needs as need
 

@@ -1,10 +1,11 @@
-use mathlib.Core.Path.{_≡_, refl, sym, ap, _∙_}
-use Prim.Native.Nat.{_≤_, _<_}
+use mathlib.Core.Path.{_≡_, refl, sym, ap}
+use Prim.Native.Nat.{_≤_}
 use native.Mathlib.Omega.{arith}
-use lib.ListN.{length, take}
+use lib.ListN.{length}
 use Rattle.std.proofs.shelf.Lists.{length-take-le}
-use Rattle.board.specs.Ladders.{without, of-market}
-use Rattle.board.proofs.Ladders.{found-place, lost-without, taken-out, ok-without}
+use Rattle.board.specs.Ladders.{of-market}
+use Rattle.shelf.proofs.Searches.{found-place}
+use Rattle.board.proofs.Ladders.{lost-without, taken-out, ok-without}
 use Rattle.board.proofs.ladder.Rail.remove.Needs as need
 
 pub ghost-self : need.ghost-self

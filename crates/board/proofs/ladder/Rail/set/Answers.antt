@@ -1,6 +1,4 @@
-use mathlib.Core.Path.{_≡_, refl, sym, ap, _∙_}
-use mathlib.Core.Bool.{true}
-use Rattle.board.specs.Quotes.{quote-ok}
+use mathlib.Core.Path.{_∙_}
 use Rattle.board.proofs.Ladders.{set-none, set-some, gone-quote}
 use Rattle.board.proofs.ladder.Rail.set.Needs as need
 
