@@ -29,7 +29,7 @@ use Rattle.board.specs.declared.types.Best.{Best}
 use Rattle.board.specs.declared.types.Level.{Level}
 use Rattle.board.specs.declared.types.Rung.{Rung}
 use Rattle.board.specs.Quotes.{Quotes, Lawful, with-quote, best-in, best-upto, market-ok, quote-ok}
-use Rattle.board.specs.Ladders.{rung-of, quote-of, level-of, over, before, of-market, rail-quote, rail-best, without, with-level, ladder-quotes, level-ok, leads, rail-ok}
+use Rattle.board.specs.Ladders.{rung-of, level-of, over, before, of-market, rail-quote, rail-best, without, with-level, ladder-quotes, level-ok, leads, rail-ok}
 use Rattle.board.proofs.Bests.{IsBest, best-none, best-some, best-one, not-self}
 
 -- what the test of a side says
@@ -76,7 +76,7 @@ over-total : (s : Side) → Total (λ (k : Rung). k .market) (over s)
 over-total s = lex-total _ (λ (k : Rung). k .price) _ _ (strict-better s) (by-label (λ (k : Rung). k .market) _ strict-up)
 
 -- what a search for a market tells of its quotation
-pub found-quote : (m : ℕ) (xs : List Level) (n : ℕ) (w : Placed Level) → first (of-market m) xs n ≡ Some w → rail-quote xs m ≡ Some (quote-of (w .item))
+pub found-quote : (m : ℕ) (xs : List Level) (n : ℕ) (w : Placed Level) → first (of-market m) xs n ≡ Some w → rail-quote xs m ≡ Some (w .item .quote)
 found-quote m [] n w e = let z : _≡_ {A = ℕ} 0 1 = cc in absurd (omega arith)
 found-quote m (x ∷ xs) n w e = let ih = found-quote m xs (suc n) w in grind (arith, tells)
 
@@ -92,18 +92,18 @@ lost-without m (x ∷ xs) n e = let ih = lost-without m xs (suc n) in grind (ari
 pub all-quoted : (P : Level → Type 0) (xs : List Level) (m : ℕ) (y : Quote) → All P xs → rail-quote xs m ≡ Some y → P (level-of m y)
 all-quoted P [] m y a e = let z : _≡_ {A = ℕ} 0 1 = cc in absurd (omega arith)
 all-quoted P (x ∷ xs) m y a e =
-    cond-both (of-market m x) (Some (quote-of x)) (rail-quote xs m) (λ r. r ≡ Some y → P (level-of m y))
+    cond-both (of-market m x) (Some (x .quote)) (rail-quote xs m) (λ r. r ≡ Some y → P (level-of m y))
     (λ t h.
     let i : x .market ≡ m = eqb-true _ _ t in
-    let j : quote-of x ≡ y = cc in
-    subst P (ap (λ n. level-of n (quote-of x)) i ∙ ap (level-of m) j) (a .0))
+    let j : x .quote ≡ y = cc in
+    subst P (ap (λ n. level-of n (x .quote)) i ∙ ap (level-of m) j) (a .0))
     (λ _ h. all-quoted P xs m y (a .1) h) e
 
 -- a market with no quotation has no level
 unquoted : (m : ℕ) (xs : List Level) → rail-quote xs m ≡ None → All (λ (y : Level). m ≡ y .market → ⊥) xs
 unquoted m [] e = tt
 unquoted m (x ∷ xs) e =
-    cond-both (of-market m x) (Some (quote-of x)) (rail-quote xs m) (λ r. r ≡ None → All (λ (y : Level). m ≡ y .market → ⊥) (x ∷ xs))
+    cond-both (of-market m x) (Some (x .quote)) (rail-quote xs m) (λ r. r ≡ None → All (λ (y : Level). m ≡ y .market → ⊥) (x ∷ xs))
     (λ _ h. let z : _≡_ {A = ℕ} 0 1 = cc in absurd (omega arith))
     (λ f h. ((λ i. eqb-false _ _ f (sym i)), unquoted m xs h)) e
 
@@ -262,27 +262,27 @@ none-upto b s h zero = refl
 none-upto b s h (suc n) = rw (h (suc n)) (none-upto b s h n)
 
 module _ (b : Quotes) (s : Side) (x : Level) (xs : List Level) (e : (m : ℕ) → b s m ≡ rail-quote (x ∷ xs) m) (k : Sound s (x ∷ xs)) where
-  stands : b s (x .market) ≡ Some (quote-of x)
+  stands : b s (x .market) ≡ Some (x .quote)
   stands = e (x .market) ∙ cond-true (of-market (x .market) x) _ _ (eq-eqb _ _ refl)
 
   -- what another market has stands behind
   behind : (m : ℕ) (y : Quote) → (x .market ≡ m → ⊥) → b s m ≡ Some y → over s (rung-of x) (record { price = y .price; market = m }) ≡ true
   behind m y d f =
-      all-quoted (λ z. before s x z ≡ true) xs m y (k .sorted .0) (sym (cond-false (of-market m x) (Some (quote-of x)) (rail-quote xs m) (ne-eqb _ _ d)) ∙ sym (e m) ∙ f)
+      all-quoted (λ z. before s x z ≡ true) xs m y (k .sorted .0) (sym (cond-false (of-market m x) (Some (x .quote)) (rail-quote xs m) (ne-eqb _ _ d)) ∙ sym (e m) ∙ f)
 
-  is-first : (n : ℕ) → x .market ≤ n → IsBest b s n (record { market = x .market; quote = quote-of x })
+  is-first : (n : ℕ) → x .market ≤ n → IsBest b s n (record { market = x .market; quote = x .quote })
   is-first n h = record {
     low = let l = k .levels .0 in grind (arith, tells);
     high = h;
     stands = stands;
     none-better = λ m y _ _ f. ⊎-elim
         (λ (i : x .market ≡ m).
-        let g : _≡_ {A = Option Quote} (Some (quote-of x)) (Some y) = sym stands ∙ ap (b s) i ∙ f in
-        let j : quote-of x ≡ y = cc in
-        ap (λ (v : Quote). better s (v .price) (x .price)) (sym j) ∙ not-self s (x .price))
-        (λ (d : x .market ≡ m → ⊥). over-none s (x .price) (y .price) (x .market) m (behind m y d f))
+        let g : _≡_ {A = Option Quote} (Some (x .quote)) (Some y) = sym stands ∙ ap (b s) i ∙ f in
+        let j : x .quote ≡ y = cc in
+        ap (λ (v : Quote). better s (v .price) (x .quote .price)) (sym j) ∙ not-self s (x .quote .price))
+        (λ (d : x .market ≡ m → ⊥). over-none s (x .quote .price) (y .price) (x .market) m (behind m y d f))
         (cases-eq (x .market) m);
-    lowest = λ m y _ l f. over-lowest s (x .price) (y .price) (x .market) m l (behind m y (λ i. omega arith) f);
+    lowest = λ m y _ l f. over-lowest s (x .quote .price) (y .price) (x .market) m l (behind m y (λ i. omega arith) f);
   }
 
   first-upto : (n : ℕ) → x .market ≤ n → rail-best (x ∷ xs) ≡ best-upto b s n
@@ -290,7 +290,7 @@ module _ (b : Quotes) (s : Side) (x : Level) (xs : List Level) (e : (m : ℕ) �
     at : (r : Option Best) → best-upto b s n ≡ r → rail-best (x ∷ xs) ≡ r
     at None g =
         let l = k .levels .0 in
-        let z : _≡_ {A = Option Quote} (Some (quote-of x)) None = sym stands ∙ best-none b s n g (x .market) (grind (arith, tells)) h in
+        let z : _≡_ {A = Option Quote} (Some (x .quote)) None = sym stands ∙ best-none b s n g (x .market) (grind (arith, tells)) h in
         let w : _≡_ {A = ℕ} 0 1 = cc in
         absurd (omega arith)
     at (Some z) g = ap Some (best-one b s n _ z (is-first n h) (best-some b s n z g))

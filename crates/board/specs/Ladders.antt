@@ -10,23 +10,20 @@ use Rattle.std.specs.shelf.Lawful.{all-pass}
 use Rattle.std.specs.Holes.{removed}
 use Rattle.market.specs.declared.types.Side.{Side}
 use Rattle.market.specs.declared.types.Side.the-variants.{Buy, Sell}
-use Rattle.market.specs.Words.{better, in-range}
+use Rattle.market.specs.Words.{better}
 use Rattle.shelf.specs.Order.{lex}
 use Rattle.shelf.specs.Standing.{first-at}
 use Rattle.board.specs.declared.types.Quote.{Quote}
 use Rattle.board.specs.declared.types.Best.{Best}
 use Rattle.board.specs.declared.types.Level.{Level}
 use Rattle.board.specs.declared.types.Rung.{Rung}
-use Rattle.board.specs.Quotes.{Quotes, market-ok}
+use Rattle.board.specs.Quotes.{Quotes, market-ok, quote-ok}
 
 abbrev pub rung-of : Level → Rung
-rung-of x = record { price = x .price; market = x .market }
-
-abbrev pub quote-of : Level → Quote
-quote-of x = record { price = x .price; shares = x .shares }
+rung-of x = record { price = x .quote .price; market = x .market }
 
 abbrev pub level-of : ℕ → Quote → Level
-level-of m q = record { market = m; price = q .price; shares = q .shares }
+level-of m q = record { market = m; quote = q }
 
 -- the better price first, then the lower market
 abbrev pub over : Side → Rung → Rung → Bool
@@ -41,12 +38,12 @@ of-market m x = eqb (x .market) m
 -- the quotation of a market: that of its first level
 abbrev pub rail-quote : List Level → ℕ → Option Quote
 rail-quote [] m = None
-rail-quote (x ∷ xs) m = cond (of-market m x) (Some (quote-of x)) (rail-quote xs m)
+rail-quote (x ∷ xs) m = cond (of-market m x) (Some (x .quote)) (rail-quote xs m)
 
 -- the best of a side stands first
 abbrev pub rail-best : List Level → Option Best
 rail-best [] = None
-rail-best (x ∷ xs) = Some (record { market = x .market; quote = quote-of x })
+rail-best (x ∷ xs) = Some (record { market = x .market; quote = x .quote })
 
 -- the levels but the first of a market
 abbrev pub without : ℕ → List Level → List Level
@@ -62,7 +59,7 @@ ladder-quotes bids offers Sell = rail-quote offers
 
 -- each level lies in its ranges
 abbrev pub level-ok : Level → Bool
-level-ok x = market-ok (x .market) && (in-range (x .price) && in-range (x .shares))
+level-ok x = market-ok (x .market) && quote-ok (Some (x .quote))
 
 -- x stands ahead of y, and is of another market
 abbrev pub leads : Side → Level → Level → Bool

@@ -36,7 +36,7 @@ pub impl Shelved for Level as LevelShelved {
 
     fn key(&self) -> Rung {
         Rung {
-            price: self.price,
+            price: self.quote.price,
             market: self.market,
         }
     }
@@ -74,14 +74,13 @@ impl Rail {
     fn new(side: Side) -> Rail
         ensures { λ r. ⌜ (r .order .side ≡ side) × (r .count ≡ 0) ⌝ }
     {
-        let nothing = Level {
-            market: 0,
+        let quote = Quote {
             price: 0,
             shares: 0,
         };
         Rail {
             order: ByPrice { side },
-            cells: [nothing; 16],
+            cells: [Level { market: 0, quote }; 16],
             count: 0,
         }
     }
@@ -98,10 +97,7 @@ impl Rail {
     {
         match find(self.standing(), market) {
             None => None,
-            Some(found) => Some(Quote {
-                price: found.item.price,
-                shares: found.item.shares,
-            }),
+            Some(found) => Some(found.item.quote),
         }
     }
 
@@ -112,10 +108,7 @@ impl Rail {
             None => None,
             Some(level) => Some(Best {
                 market: level.market,
-                quote: Quote {
-                    price: level.price,
-                    shares: level.shares,
-                },
+                quote: level.quote,
             }),
         }
     }
@@ -140,11 +133,7 @@ impl Rail {
         ensures stands { λ _. ⌜ take (now (self .exit) .count) (now (self .exit) .cells) ≡ put-in (before (now (self .entry) .order .side)) (level-of market quote) (take (now (self .entry) .count) (now (self .entry) .cells)) ⌝ }
         ensures same { λ _. ⌜ now (self .exit) .order ≡ now (self .entry) .order ⌝ }
     {
-        let level = Level {
-            market,
-            price: quote.price,
-            shares: quote.shares,
-        };
+        let level = Level { market, quote };
         if let Ok(count) = put(&self.order, &mut self.cells, self.count, level) {
             self.count = count;
         }

@@ -18,8 +18,7 @@ pub struct Best {
 #[derive(Clone, Copy)]
 pub struct Level {
     pub market: u32,
-    pub price: u32,
-    pub shares: u32,
+    pub quote: Quote,
 }
 
 // What decides where a level stands.
