@@ -82,7 +82,7 @@ not-back : (s : Side) (x y : ℕ) → better s x y ≡ true → better s y x ≡
 not-back Buy x y h = grind (arith, tells)
 not-back Sell x y h = grind (arith, tells)
 
-not-self : (s : Side) (x : ℕ) → better s x x ≡ false
+pub not-self : (s : Side) (x : ℕ) → better s x x ≡ false
 not-self Buy x = grind (arith, tells)
 not-self Sell x = grind (arith, tells)
 

@@ -1,3 +1,4 @@
 pub mod Bests
 mod Answers
 mod Plates
+mod Ladders

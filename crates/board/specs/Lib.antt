@@ -1,2 +1,3 @@
 pub mod Quotes
 pub mod Plates
+pub mod Ladders

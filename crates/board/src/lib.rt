@@ -4,6 +4,7 @@
 ghost use mathlib.Core.Path.{_≡_};
 ghost use Rattle.board.specs.Quotes.{Quotes, Lawful, with-quote, post-answer, posted, if-ok, take-answer, lowered, best-in};
 
+pub mod ladder;
 pub mod plate;
 pub mod quotes;
 pub mod types;

@@ -1,3 +1,5 @@
+use market::types::Side;
+
 // A protected quotation of an away market.
 #[derive(Clone, Copy, PartialEq, Eq, Debug)]
 pub struct Quote {
@@ -10,4 +12,24 @@ pub struct Quote {
 pub struct Best {
     pub market: u32,
     pub quote: Quote,
+}
+
+// A quotation with its market, as it stands on a ladder.
+#[derive(Clone, Copy)]
+pub struct Level {
+    pub market: u32,
+    pub quote: Quote,
+}
+
+// What decides where a level stands.
+#[derive(Clone, Copy)]
+pub struct Rung {
+    pub price: u32,
+    pub market: u32,
+}
+
+// The order of a side's levels.
+#[derive(Clone, Copy)]
+pub struct ByPrice {
+    pub side: Side,
 }

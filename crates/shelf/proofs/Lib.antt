@@ -2,3 +2,4 @@ mod Shift
 pub mod Searches
 pub mod Lex
 pub mod Sorting
+mod Runs

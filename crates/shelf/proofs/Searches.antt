@@ -9,7 +9,8 @@ use lib.ListN.{length, getD, drop}
 use Rattle.std.specs.declared.option.Option.{Option}
 use Rattle.std.specs.declared.option.Option.the-variants.{Some, None}
 use Rattle.std.proofs.shelf.Lists.{drop-more, drop-all}
-use Rattle.std.proofs.shelf.Tests.{cond-both}
+use Rattle.std.proofs.shelf.Tests.{cases-bool, cond-both}
+use Rattle.std.proofs.shelf.Ways.{tells}
 use Rattle.shelf.specs.declared.types.Placed.{Placed}
 use Rattle.shelf.specs.Standing.{first, first-at, nth}
 
@@ -67,3 +68,8 @@ module _ {X : Type 0} where
   pub first-at-le : (p : X → Bool) (xs : List X) → first-at p xs ≤ length xs
   first-at-le p [] = omega arith
   first-at-le p (x ∷ xs) = let h = first-at-le p xs in elim (p x) as (λ b. cond b zero (suc (first-at p xs)) ≤ suc (length xs)) [ true ↦ omega arith | false ↦ omega arith ]
+
+  -- the place of the first that passes is how many stand before it
+  pub found-place : (p : X → Bool) (xs : List X) (n : ℕ) (w : Placed X) → first p xs n ≡ Some w → (w .place ≡ n + first-at p xs) × (first-at p xs < length xs)
+  found-place p [] n w e = let z : _≡_ {A = ℕ} 0 1 = cc in absurd (omega arith)
+  found-place p (x ∷ xs) n w e = let ih = found-place p xs (suc n) w in (grind (arith, tells, cases-bool (p x)), grind (arith, tells, cases-bool (p x)))

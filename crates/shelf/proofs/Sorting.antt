@@ -1,17 +1,18 @@
 -- What a put, a take-out and a replacement keep of a shelf: its order, and what stands on it. Assumes nothing.
-use mathlib.Core.Path.{_≡_, refl, sym, ap, _∙_}
-use mathlib.Core.Bool.{Bool, true, false, cond}
-use mathlib.Core.Logic.{_⊎_, inl, inr, ⊎-elim}
+use mathlib.Core.Path.{_≡_, refl, sym, ap, _∙_, subst}
+use mathlib.Core.Bool.{Bool, true, cond}
+use mathlib.Core.Logic.{_⊎_, ⊎-elim}
 use mathlib.Core.List.{List, [], _∷_}
-use Prim.Native.Nat.{ℕ, zero, suc, _<_, _≤_}
+use Prim.Native.Nat.{ℕ, zero, suc}
 use native.Mathlib.Omega.{arith}
 use lib.ListN.{length, set}
 use Rattle.std.specs.shelf.Lists.{All}
 use Rattle.std.specs.Holes.{inserted, removed}
-use Rattle.std.proofs.shelf.Tests.{cases-bool, both-ways, cond-both}
-use Rattle.std.proofs.shelf.Elements.{all-weaker}
-use Rattle.shelf.specs.Order.{Total, Pairwise, Sorted}
-use Rattle.shelf.specs.Standing.{first-at, put-in}
+use Rattle.std.proofs.shelf.Tests.{both-ways, cond-both}
+use Rattle.std.proofs.shelf.Elements.{all-weaker, all-set}
+use Rattle.std.specs.declared.option.Option.the-variants.{Some}
+use Rattle.shelf.specs.Order.{Total, Pairwise, Sorted, Distinct}
+use Rattle.shelf.specs.Standing.{first-at, put-in, nth}
 
 module _ {X : Type 0} where
   -- before the first that it is ahead of: by its place, and by what is passed
@@ -44,6 +45,31 @@ module _ {X : Type 0} where
   pairwise-removed R [] (suc n) p = tt
   pairwise-removed R (x ∷ xs) zero p = p .1
   pairwise-removed R (x ∷ xs) (suc n) p = (all-removed (R x) xs n (p .0), pairwise-removed R xs n (p .1))
+
+  -- a put keeps the tags of what stands apart
+  pub distinct-put : (tag : X → ℕ) (before : X → X → Bool) (x : X) (xs : List X) → All (λ y. tag x ≡ tag y → ⊥) xs → Distinct tag xs → Distinct tag (put-in before x xs)
+  distinct-put tag before x [] a d = (tt, tt)
+  distinct-put tag before x (y ∷ ys) a d =
+      cond-both (before x y) (x ∷ y ∷ ys) (y ∷ put-in before x ys) (Distinct tag)
+      (λ _. (a, d))
+      (λ _. (all-put-in (λ w. tag y ≡ tag w → ⊥) before x ys (λ i. a .0 (sym i)) (d .0), distinct-put tag before x ys (a .1) (d .1)))
+
+  -- what all have, the one at a place has
+  pub all-nth : (P : X → Type 0) (xs : List X) (n : ℕ) (x : X) → nth n xs ≡ Some x → All P xs → P x
+  all-nth P [] n x e a = let z : _≡_ {A = ℕ} 0 1 = cc in absurd (omega arith)
+  all-nth P (y ∷ ys) zero x e a = let i : y ≡ x = cc in subst P i (a .0)
+  all-nth P (y ∷ ys) (suc n) x e a = all-nth P ys n x e (a .1)
+
+module _ {X K : Type 0} (ahead : K → K → Bool) (key : X → K) where
+  -- a thing of the same key stands as well in the place of another
+  pub set-sorted : (x y : X) (xs : List X) (n : ℕ) → nth n xs ≡ Some x → key y ≡ key x → Sorted (λ a b. ahead (key a) (key b)) xs → Sorted (λ a b. ahead (key a) (key b)) (set xs n y)
+  set-sorted x y [] n e k s = let z : _≡_ {A = ℕ} 0 1 = cc in absurd (omega arith)
+  set-sorted x y (w ∷ ws) zero e k s =
+      let i : w ≡ x = cc in
+      (subst (λ v. All (λ b. ahead v (key b) ≡ true) ws) (ap key i ∙ sym k) (s .0), s .1)
+  set-sorted x y (w ∷ ws) (suc n) e k s =
+      let h = all-nth (λ b. ahead (key w) (key b) ≡ true) ws n x e (s .0) in
+      (all-set (λ b. ahead (key w) (key b) ≡ true) ws n y (ap (ahead (key w)) k ∙ h) (s .0), set-sorted x y ws n e k (s .1))
 
 module _ {X K : Type 0} (label : K → ℕ) (ahead : K → K → Bool) (key : X → K) (t : Total label ahead) where
   abbrev before : X → X → Bool

@@ -13,6 +13,7 @@ ghost use Rattle.std.specs.Holes.{inserted, removed};
 ghost use Rattle.shelf.specs.Order.{Total};
 ghost use Rattle.shelf.specs.Standing.{first, first-at, put-in, nth};
 
+pub mod laws;
 pub mod types;
 
 use types::Absent;
