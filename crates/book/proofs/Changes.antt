@@ -18,7 +18,7 @@ use Rattle.rules.specs.declared.types.Order.{Order}
 use Rattle.rules.specs.declared.types.Located.{Located}
 use Rattle.rules.specs.Calls.{Market, Terms, Outcome, of-side, with-side, taken-off, at-rest, outcome, decided, cancel-refusal, cancelled, cancel, cut-refusal, cut-to, cut-stayed, cut, leaves, market, post-accepted, post}
 use Rattle.book.specs.Held.{same-behind}
-use Rattle.book.proofs.Steps.{drop-later}
+use Rattle.shelf.proofs.Cells.{drop-later}
 
 pub taken-off-at : (m : Market) (l : Located) (side : Side) (os : List Order) → l .side ≡ side → os ≡ removed (of-side side m) (l .place) → with-side side os m ≡ taken-off m l
 taken-off-at m l side os e f =

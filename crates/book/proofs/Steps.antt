@@ -2,13 +2,13 @@
 use mathlib.Core.Path.{_≡_, refl, sym, ap, _∙_}
 use mathlib.Core.Bool.{Bool, true, false, cond}
 use mathlib.Core.List.{List, [], _∷_, _++_, append-assoc, append-nil}
-use Prim.Native.Nat.{ℕ, zero, suc, _+_, _-_, _<_, _≤_}
+use Prim.Native.Nat.{ℕ, zero, suc, _+_, _<_, _≤_}
 use native.Mathlib.Omega.{arith}
 use lib.Dec.{eqb, leb}
-use lib.ListN.{length, take, drop, set}
+use lib.ListN.{length, take, set}
 use Rattle.std.specs.declared.option.Option.{Option}
 use Rattle.std.specs.declared.option.Option.the-variants.{Some, None}
-use Rattle.std.proofs.shelf.Lists.{take-more-set, drop-drop}
+use Rattle.std.proofs.shelf.Lists.{take-more-set}
 use Rattle.std.proofs.shelf.Tests.{eq-eqb, ne-eqb}
 use Rattle.market.specs.Words.{opposite}
 use Rattle.shelf.specs.declared.types.Placed.{Placed}
@@ -68,9 +68,3 @@ measured-enough s e = ap (λ b. cond b (sweep 144 s) (swept [] s)) e
 pub measured-short : (s : Stand) → leb (mtv-of (s .incoming .kind)) (volume (s .incoming) (s .opp) (s .quotes)) ≡ false → measured-sweep s ≡ swept [] s
 unfolding measured-sweep
 measured-short s e = ap (λ b. cond b (sweep 144 s) (swept [] s)) e
-
--- cells that are equal from a place on are equal from each later place on
-pub drop-later : {X : Type 0} (xs ys : List X) (n m : ℕ) → n ≤ m → drop n xs ≡ drop n ys → drop m xs ≡ drop m ys
-drop-later xs ys n m h e =
-    let k : n + (m - n) ≡ m = omega arith in
-    ap (λ j. drop j xs) (sym k) ∙ sym (drop-drop (m - n) n xs) ∙ ap (drop (m - n)) e ∙ drop-drop (m - n) n ys ∙ ap (λ j. drop j ys) k

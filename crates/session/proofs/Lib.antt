@@ -1,3 +1,4 @@
+mod Writing
 mod Scans
 mod Words
 mod Entries

@@ -95,3 +95,4 @@ pub fn reading_laws() -> u8
 {
     0
 }
+mod listing;

@@ -1,3 +1,4 @@
+pub mod Cells
 mod Shift
 pub mod Searches
 pub mod Lex

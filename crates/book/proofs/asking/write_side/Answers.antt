@@ -5,7 +5,7 @@ use lib.ListN.{take, drop, length}
 use Rattle.std.proofs.shelf.Lists.{drop-set-lt, take-all}
 use Rattle.rules.specs.Calls.{standing-row}
 use Rattle.book.proofs.Loops.{rows-more}
-use Rattle.book.proofs.Steps.{drop-later}
+use Rattle.shelf.proofs.Cells.{drop-later}
 use Rattle.book.proofs.asking.write_side.Needs as need
 
 pub loop-i-again : need.loop-i-again

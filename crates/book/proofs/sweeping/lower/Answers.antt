@@ -6,7 +6,7 @@ use lib.ListN.{take, set}
 use Rattle.std.specs.Holes.{removed}
 use Rattle.std.proofs.shelf.Ways.{tells}
 use Rattle.rules.specs.Sweeps.{less}
-use Rattle.book.proofs.Steps.{drop-later}
+use Rattle.shelf.proofs.Cells.{drop-later}
 use Rattle.book.proofs.sweeping.lower.Needs as need
 
 pub returns-in-Ok : need.returns-in-Ok

@@ -3,7 +3,8 @@ use Prim.Native.Nat.{suc, _+_, _-_, _<_, _≤_}
 use native.Mathlib.Omega.{arith}
 use lib.ListN.{take, drop, length}
 use Rattle.std.proofs.shelf.Lists.{drop-set-lt}
-use Rattle.book.proofs.Steps.{sweep-more, sweep-ends, sweep-full, drop-later}
+use Rattle.book.proofs.Steps.{sweep-more, sweep-ends, sweep-full}
+use Rattle.shelf.proofs.Cells.{drop-later}
 use Rattle.book.proofs.sweeping.sweep.Needs as need
 
 pub step-requires : need.step-requires

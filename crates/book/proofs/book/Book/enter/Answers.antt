@@ -7,7 +7,7 @@ use Rattle.std.proofs.shelf.Ways.{tells}
 use Rattle.rules.specs.Calls.{market, terms, entered}
 use Rattle.book.specs.Held.{held}
 use Rattle.book.proofs.Entries.{own-count, enter-refused, enter-left, cells-pass}
-use Rattle.book.proofs.Steps.{drop-later}
+use Rattle.shelf.proofs.Cells.{drop-later}
 use Rattle.book.proofs.book.Book.enter.Needs as need
 
 pub returns-in-Some : need.returns-in-Some

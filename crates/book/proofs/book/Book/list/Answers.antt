@@ -14,7 +14,7 @@ use Rattle.std.proofs.shelf.Ways.{tells}
 use Rattle.market.specs.declared.types.Side.the-variants.{Buy, Sell}
 use Rattle.rules.specs.Calls.{standing-row, standing-rows, list-refusal}
 use Rattle.book.specs.Held.{held}
-use Rattle.book.proofs.Steps.{drop-later}
+use Rattle.shelf.proofs.Cells.{drop-later}
 use Rattle.book.proofs.book.Book.list.Needs as need
 
 pub returns : need.returns

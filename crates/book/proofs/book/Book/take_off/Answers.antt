@@ -4,7 +4,7 @@ use native.Mathlib.Omega.{arith}
 use lib.ListN.{take}
 use Rattle.market.specs.declared.types.Side.the-variants.{Buy, Sell}
 use Rattle.book.specs.Held.{held}
-use Rattle.book.proofs.Steps.{drop-later}
+use Rattle.shelf.proofs.Cells.{drop-later}
 use Rattle.book.proofs.Changes.{taken-off-at}
 use Rattle.book.proofs.book.Book.take_off.Needs as need
 
