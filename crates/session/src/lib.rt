@@ -10,6 +10,8 @@ ghost use Rattle.session.specs.Written.{file-bytes, Fitting, Answered, Reads-b
 mod bodies;
 mod contents;
 mod fields;
+mod listing;
+pub mod running;
 pub mod types;
 
 use bodies::read_body;
@@ -95,4 +97,3 @@ pub fn reading_laws() -> u8
 {
     0
 }
-mod listing;

@@ -67,7 +67,7 @@ fn write_bytes(listing: &mut [u8], at: usize, bytes: &[u8]) -> usize
 }
 
 // The line of a call: its label, its answer and three figures.
-fn write_answer(
+pub fn write_answer(
     listing: &mut [u8],
     at: usize,
     label: &[u8],
@@ -112,7 +112,7 @@ fn write_row(listing: &mut [u8], at: usize, row: &Row) -> usize
     }
 }
 
-fn write_rows(listing: &mut [u8], at: usize, rows: &[Row]) -> usize
+pub fn write_rows(listing: &mut [u8], at: usize, rows: &[Row]) -> usize
     requires { ⌜ at + 46 * length (now rows) ≤ length (now listing) ⌝ }
     ensures wrote { λ r. ⌜ Wrote at (now (listing .entry)) r (now (listing .exit)) (rows-text (now (rows .entry))) ⌝ }
     ensures short { λ r. ⌜ r ≤ at + 46 * length (now (rows .entry)) ⌝ }
