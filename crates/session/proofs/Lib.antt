@@ -6,3 +6,5 @@ mod Values
 mod Reading
 mod LayingOut
 mod Laws
+mod Packing
+mod Writes
