@@ -3,6 +3,7 @@ ghost use mathlib.Core.Path.{_≡_};
 ghost use mathlib.Core.List.{_++_};
 ghost use Prim.Native.Nat.{_+_, _*_, _<_, _≤_};
 ghost use lib.ListN.{length, take, drop};
+ghost use Rattle.std.specs.Vec.{made};
 ghost use Rattle.session.specs.Written.{short, contents, layout};
 ghost use Rattle.session.specs.Packing.{lines-in, unparted, packed, output-after};
 use crate::fields::word_end;
@@ -88,6 +89,7 @@ fn write_bodies(out: &mut [u8], text: &[u8], first: usize)
 pub fn pack(text: &[u8], out: &mut [u8]) -> Result<usize, PackError>
     ensures value { λ r. ⌜ r ≡ packed (lines-in (now (text .entry))) (length (now (out .entry))) ⌝ }
     ensures after { λ r. ⌜ now (out .exit) ≡ output-after (lines-in (now (text .entry))) (now (out .entry)) r ⌝ }
+    ensures within { λ r. ⌜ made r (λ n. n ≤ length (now (out .entry))) ⌝ }
 {
     let extent = measure(text);
     if extent.lines > 512 {

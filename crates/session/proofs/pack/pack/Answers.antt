@@ -15,13 +15,13 @@ pub returns-then-size-gt65535 : need.returns-then-size-gt65535
 returns-then-size-gt65535 c =
     let ls = lines-in (c .args .text .now) in
     let l = length-layout ls in
-    record { value = sym (packed-large ls (length (c .args .out .now)) (omega arith) (omega arith)); after = refl }
+    record { value = sym (packed-large ls (length (c .args .out .now)) (omega arith) (omega arith)); after = refl; within = tt }
 
 pub returns-then-out-size : need.returns-then-out-size
 returns-then-out-size c =
     let ls = lines-in (c .args .text .now) in
     let l = length-layout ls in
-    record { value = sym (packed-short ls (length (c .args .out .now)) (omega arith) (omega arith) (omega arith)); after = refl }
+    record { value = sym (packed-short ls (length (c .args .out .now)) (omega arith) (omega arith) (omega arith)); after = refl; within = tt }
 
 pub returns : need.returns
 returns c =
@@ -46,4 +46,5 @@ returns c =
     record {
       value = ap (λ (m : ℕ). Ok m) z ∙ sym (packed-fits ls (length old) (omega arith) (omega arith) (omega arith));
       after = written-out ls old out1 out2 out3 f t e k s1 (c .write-short .ensures .behind) s2 b2 s3 b3;
+      within = omega arith;
     }
