@@ -2,7 +2,6 @@
 ghost use Prim.Native.Nat.{_≤_};
 ghost use lib.ListN.{length};
 ghost use Rattle.std.specs.Vec.{made};
-
 use session::pack::pack;
 use session::types::PackError;
 use std::error::AnyError;
