@@ -140,7 +140,7 @@ entries-right file (b ∷ bs) i next rest c d h =
     let v : body-in file i ≡ b = ap (λ k. take k (drop (offset-of file i) file)) l ∙ ap (λ k. take n (drop k file)) o ∙ ap (take n) d ∙ take-at b (joined (λ x. x) bs) n refl in
     (w ∙ ap (λ k. wrong-entry file (length bs) (suc i) (next + k)) l ∙ ih .0, ap (λ x. x ∷ bodies-from file (length bs) (suc i)) v ∙ ap (λ ys. b ∷ ys) (ih .1))
 
-length-contents : (next : ℕ) (bs : List (List ℕ)) → length (contents next bs) ≡ 4 * length bs
+pub length-contents : (next : ℕ) (bs : List (List ℕ)) → length (contents next bs) ≡ 4 * length bs
 length-contents next [] = refl
 length-contents next (b ∷ bs) = let ih = length-contents (next + length b) bs in omega arith
 

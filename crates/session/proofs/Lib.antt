@@ -7,3 +7,5 @@ mod Values
 mod Reading
 mod LayingOut
 mod Laws
+mod Packing
+mod Writes

@@ -4,3 +4,4 @@ pub mod Files
 pub mod Written
 pub mod Listing
 pub mod Calls
+pub mod Packing

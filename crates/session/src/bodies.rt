@@ -6,7 +6,6 @@ ghost use Rattle.std.specs.declared.option.Option.the-variants.{Some, None};
 ghost use Rattle.shelf.specs.Standing.{nth};
 ghost use Rattle.session.specs.Fields.{fields, number, first-letter, kind-letter, side-letter, routing-digit, mark-letter};
 ghost use Rattle.session.specs.Lines.{line-in, said, ends-at, label-in, kind-from, ilo-of, new-of, cut-of, cancel-of, post-of, and-then, read-line, only-at};
-use crate::fields::field_end;
 use crate::fields::is_a_label;
 use crate::fields::read_first_letter;
 use crate::fields::read_kind_letter;
@@ -14,6 +13,7 @@ use crate::fields::read_mark;
 use crate::fields::read_number;
 use crate::fields::read_routing;
 use crate::fields::read_side;
+use crate::fields::word_end;
 use crate::types::Body;
 use crate::types::KindLetter;
 use crate::types::Letter;
@@ -28,13 +28,13 @@ fn field_at(body: &[u8], n: usize) -> Option<&[u8]>
 {
     let mut at = 0;
     for passed in 0..n {
-        let end = field_end(body, at);
+        let end = word_end(body, b' ', at);
         if end == body.len() {
             return None;
         }
         at = end + 1;
     }
-    let end = field_end(body, at);
+    let end = word_end(body, b' ', at);
     Some(&body[at..end])
 }
 

@@ -264,15 +264,15 @@ pub fn next_wanted(wanted: Wanted, field: &[u8], last: bool) -> Result<Wanted, F
     after_field(wanted, field)
 }
 
-// Where the field that begins at a place ends: at the next space, or at the body's end.
-pub fn field_end(body: &[u8], at: usize) -> usize
-    requires { ⌜ at ≤ length (now body) ⌝ }
-    ensures { λ r. ⌜ r ≡ at + length (word 32 (drop at (now (body .entry)))) ⌝ ∗ ⌜ r ≤ length (now (body .entry)) ⌝ }
+// Where the word that begins at a place ends: at the next mark, which parts words, or at the end.
+pub fn word_end(bytes: &[u8], mark: u8, at: usize) -> usize
+    requires { ⌜ at ≤ length (now bytes) ⌝ }
+    ensures { λ r. ⌜ r ≡ at + length (word mark (drop at (now (bytes .entry)))) ⌝ ∗ ⌜ r ≤ length (now (bytes .entry)) ⌝ }
 {
-    for i in at..body.len() {
-        if body[i] == b' ' {
+    for i in at..bytes.len() {
+        if bytes[i] == mark {
             return i;
         }
     }
-    body.len()
+    bytes.len()
 }

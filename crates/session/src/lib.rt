@@ -10,7 +10,9 @@ ghost use Rattle.session.specs.Written.{file-bytes, Fitting, Answered, Reads-b
 mod bodies;
 mod contents;
 mod fields;
+pub mod input;
 mod listing;
+pub mod pack;
 pub mod running;
 pub mod types;
 
@@ -20,9 +22,9 @@ use contents::count;
 use contents::is_wrong_size;
 use contents::offset;
 use contents::wrong_entry;
-use fields::field_end;
 use fields::is_end;
 use fields::next_wanted;
+use fields::word_end;
 use market::types::Refusal;
 use types::Body;
 use types::Wanted;
@@ -38,7 +40,7 @@ fn check_bodies(file: &[u8], count: usize) -> Result<usize, Refusal>
             let mut wanted = Wanted::First;
             let mut at = 0;
             loop {
-                let end = field_end(body, at);
+                let end = word_end(body, b' ', at);
                 match next_wanted(wanted, &body[at..end], end == body.len()) {
                     Ok(next) => wanted = next,
                     Err(_) => break 'bodies (index, offset(file, index) + at),

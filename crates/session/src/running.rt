@@ -3,6 +3,7 @@
 ghost use mathlib.Core.Path.{_≡_};
 ghost use Prim.Native.Nat.{_+_, _≤_};
 ghost use lib.ListN.{length};
+ghost use Rattle.std.specs.Vec.{made};
 ghost use Rattle.session.specs.Lines.{line-of};
 ghost use Rattle.session.specs.Calls.{call-of};
 ghost use Rattle.session.specs.Listing.{label-text};
@@ -124,10 +125,13 @@ pub fn run<R: Ranking + Copy, B: Board>(
     board: &mut B,
     file: &[u8],
     listing: &mut [u8],
-) -> Result<usize, Refusal> {
+) -> Result<usize, Refusal>
+    ensures { λ r. ⌜ made r (λ n. (n ≤ 65536) × (n ≤ length (now (listing .entry)))) ⌝ }
+{
     if listing.len() < LISTING_BYTES {
         return Err(Refusal::ShortListing);
     }
+    let listing = &mut listing[0..LISTING_BYTES];
     let count = check_file(file)?;
     let mut bids = [NO_ORDER; CELLS];
     let mut offers = [NO_ORDER; CELLS];
@@ -156,7 +160,9 @@ pub fn run<R: Ranking + Copy, B: Board>(
 }
 
 // The session that the rig plays: size-time, and a board without a quotation.
-pub fn run_session(file: &[u8], listing: &mut [u8]) -> Result<usize, Refusal> {
+pub fn run_session(file: &[u8], listing: &mut [u8]) -> Result<usize, Refusal>
+    ensures { λ r. ⌜ made r (λ n. (n ≤ 65536) × (n ≤ length (now (listing .entry)))) ⌝ }
+{
     run(SizeTime, &mut Plate::new(), file, listing)
 }
 
@@ -164,7 +170,7 @@ pub fn run_session(file: &[u8], listing: &mut [u8]) -> Result<usize, Refusal> {
 #[unsafe(no_mangle)]
 pub extern "C" fn rig_session(file: &[u8], listing: &mut [u8]) -> u32 {
     match run_session(file, listing) {
-        Ok(length) => (length % 100_000) as u32,
+        Ok(length) => length as u32,
         Err(refusal) => 100_000 + refusal.number(),
     }
 }

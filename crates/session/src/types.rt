@@ -93,3 +93,14 @@ pub enum Alphabet {
     Digits,
     LabelLetters,
 }
+
+// Why lines of text are not packed into a session file.
+#[derive(Clone, Copy, PartialEq, Eq, Debug)]
+pub enum PackError {
+    // More than 512 lines.
+    TooManyLines,
+    // A file of more than 65,535 bytes.
+    TooLarge,
+    // The output is shorter than the file.
+    NoRoom,
+}

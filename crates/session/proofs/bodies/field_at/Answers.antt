@@ -14,17 +14,17 @@ returns-then-end-body c =
     let xs = c .args .body .now in
     let at = c .loop-passed .at in
     let e : c .args .n - c .loop-passed .passed ≡ suc (c .args .n - (c .loop-passed .passed + 1)) = omega arith in
-    let b = behind-last xs at (c .field-end-end .result) (c .loop-passed .inv .0) (c .field-end-end .ensures .0) (c .if-end-body .taken) in
+    let b = behind-last xs at (c .word-end-end .result) (c .loop-passed .inv .0) (c .word-end-end .ensures .0) (c .if-end-body .taken) in
     sym (c .loop-passed .inv .1) ∙ ap (λ k. nth k (fields (drop at xs))) e ∙ ap (nth (c .args .n - (c .loop-passed .passed + 1))) b
 
 pub loop-passed-again : need.loop-passed-again
 loop-passed-again c =
     let xs = c .args .body .now in
     let at = c .loop-passed .at in
-    let end = c .field-end-end .result in
+    let end = c .word-end-end .result in
     let e : c .args .n - c .loop-passed .passed ≡ suc (c .args .n - (c .loop-passed .passed + 1)) = omega arith in
-    let b = behind xs at end (c .loop-passed .inv .0) (c .field-end-end .ensures .0) (c .if-end-body .left) in
-    let w = within-word xs at end (c .loop-passed .inv .0) (c .field-end-end .ensures .0) (c .if-end-body .left) in
+    let b = behind xs at end (c .loop-passed .inv .0) (c .word-end-end .ensures .0) (c .if-end-body .left) in
+    let w = within-word xs at end (c .loop-passed .inv .0) (c .word-end-end .ensures .0) (c .if-end-body .left) in
     (w, sym (ap (λ k. nth k (fields (drop at xs))) e ∙ ap (nth (c .args .n - (c .loop-passed .passed + 1))) b) ∙ c .loop-passed .inv .1)
 
 pub returns : need.returns
@@ -32,5 +32,5 @@ returns c =
     let xs = c .args .body .now in
     let at = c .loop-passed .at in
     let e : c .args .n - c .loop-passed .passed ≡ 0 = omega arith in
-    let w = word-between xs at (c .field-end-end-2 .result) (c .loop-passed .inv .0) (c .field-end-end-2 .ensures .0) in
+    let w = word-between xs at (c .word-end-end-2 .result) (c .loop-passed .inv .0) (c .word-end-end-2 .ensures .0) in
     sym (c .loop-passed .inv .1) ∙ ap (λ k. nth k (fields (drop at xs))) e ∙ ap (λ (ys : List ℕ). Some ys) (sym w)
