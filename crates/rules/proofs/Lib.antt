@@ -1,1 +1,3 @@
 pub mod Precedences
+mod Branches
+mod Finding

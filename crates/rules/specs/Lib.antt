@@ -3,3 +3,6 @@ pub mod Rankings
 pub mod Trading
 pub mod Sweeps
 pub mod Calls
+pub mod Tape
+pub mod Judge
+pub mod Law
