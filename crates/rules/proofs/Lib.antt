@@ -1,3 +1,6 @@
 pub mod Precedences
 mod Branches
 mod Finding
+mod Counting
+mod Quotations
+mod Conditions
