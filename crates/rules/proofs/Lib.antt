@@ -4,3 +4,4 @@ mod Finding
 mod Counting
 mod Quotations
 mod Conditions
+mod Steps
