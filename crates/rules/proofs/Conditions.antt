@@ -114,12 +114,17 @@ module _ (ranking : Ranking) (n : ℕ) (s : Stand) (a : Account) (ok : Sound ran
       (λ _ _ h. all-found P arrival-of k (s .opp) d q h) (λ x _ g h. all-found P arrival-of k (s .own) d p (g ∙ h)) refl e
 
   -- nothing at rest has the arrival of the incoming order
-  older : (k : ℕ) (d : Order) → at-rest k ≡ Some d → s .incoming .arrival ≡ d .arrival → ⊥
+  pub older : (k : ℕ) (d : Order) → at-rest k ≡ Some d → s .incoming .arrival ≡ d .arrival → ⊥
   older k d e h =
       let l = ok .newer in
       let numbered : (t : Side) (os : List Order) → All (Order-kept t n) os → All (λ o. o .arrival ≤ n) os = λ t os. all-weaker (Order-kept t n) (λ o. o .arrival ≤ n) (λ o w. w .numbered) os in
       let m : d .arrival ≤ n = either (λ o. o .arrival ≤ n) (numbered (s .incoming .side) (s .own) (ok .own .each)) (numbered (opposite (s .incoming .side)) (s .opp) (ok .opp .each)) k d e in
       omega arith
+
+  pub at-rest-tag : (k : ℕ) (d : Order) → at-rest k ≡ Some d → d .arrival ≡ k
+  at-rest-tag k d e =
+      by-option (found arrival-of k (s .own)) (λ r. found arrival-of k (s .own) ≡ r → or-else r (found arrival-of k (s .opp)) ≡ Some d → d .arrival ≡ k)
+      (λ _ _ h. found-tag arrival-of k (s .opp) d h) (λ x _ g h. found-tag arrival-of k (s .own) d (g ∙ h)) refl e
 
   pub rests-from : (d : Order) → at-rest (d .arrival) ≡ Some d → Rests a (s .incoming) d
   rests-from d e =

@@ -5,3 +5,5 @@ mod Counting
 mod Quotations
 mod Conditions
 mod Steps
+mod Sweeping
+mod Volumes
