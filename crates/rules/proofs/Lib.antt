@@ -7,3 +7,5 @@ mod Conditions
 mod Steps
 mod Sweeping
 mod Volumes
+mod Markets
+mod Refusals
