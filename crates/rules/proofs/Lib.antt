@@ -9,3 +9,5 @@ mod Sweeping
 mod Volumes
 mod Markets
 mod Refusals
+mod Entering
+mod Changing
