@@ -11,3 +11,5 @@ mod Markets
 mod Refusals
 mod Entering
 mod Changing
+mod Lights
+pub mod Tapes

@@ -52,6 +52,11 @@ pub record Matches (a : Account) (m : Market) : Type 0 where
   pub quotes : a .quotes ≡ m .quotes
   pub accepted : a .accepted ≡ m .arrivals
 
+pub found-in-tag : (n : ℕ) (m : Market) (o : Order) → found-in n m ≡ Some o → o .arrival ≡ n
+found-in-tag n m o e =
+    by-option (found arrival-of n (m .bids)) (λ x. found arrival-of n (m .bids) ≡ x → or-else x (found arrival-of n (m .offers)) ≡ Some o → o .arrival ≡ n)
+    (λ _ _ g. found-tag arrival-of n (m .offers) o g) (λ x _ w g. found-tag arrival-of n (m .bids) o (w ∙ g)) refl e
+
 -- Both sides of a market, from the one that a call looks at.
 or-else-swap : (x y : Option Order) → ((a b : Order) → x ≡ Some a → y ≡ Some b → ⊥) → or-else x y ≡ or-else y x
 or-else-swap None None h = refl
