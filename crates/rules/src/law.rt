@@ -1,0 +1,18 @@
+// Theorems about the rules, each as the contract of a function: calling one hands its caller the
+// theorem. The answer itself says nothing.
+ghost use Rattle.rules.specs.Law.{Tape-law, Tape-goes-on};
+
+// The law of the tape: for every lawful ranking, every start of the board and every list of calls,
+// each entry of the tape passes the judge.
+pub fn tape_law() -> u8
+    ensures { λ _. ⌜ Tape-law ⌝ }
+{
+    0
+}
+
+// One more call adds its entry at the end of the tape, at the market that the calls before it leave.
+pub fn tape_goes_on() -> u8
+    ensures { λ _. ⌜ Tape-goes-on ⌝ }
+{
+    0
+}
