@@ -6,3 +6,4 @@ pub mod Calls
 pub mod Tape
 pub mod Judge
 pub mod Law
+pub mod Known

@@ -1,5 +1,8 @@
 // Theorems about the rules, each as the contract of a function: calling one hands its caller the
 // theorem. The answer itself says nothing.
+ghost use mathlib.Core.Path.{_≡_};
+ghost use mathlib.Core.Bool.{true};
+ghost use Rattle.rules.specs.Known.{Known};
 ghost use Rattle.rules.specs.Law.{Tape-law, Tape-goes-on};
 
 // The law of the tape: for every lawful ranking, every start of the board and every list of calls,
@@ -13,6 +16,13 @@ pub fn tape_law() -> u8
 // One more call adds its entry at the end of the tape, at the market that the calls before it leave.
 pub fn tape_goes_on() -> u8
     ensures { λ _. ⌜ Tape-goes-on ⌝ }
+{
+    0
+}
+
+// The sweeps whose fills are known come out so.
+pub fn known_sweeps() -> u8
+    ensures { λ _. ⌜ Known ≡ true ⌝ }
 {
     0
 }
