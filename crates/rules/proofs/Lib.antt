@@ -13,3 +13,4 @@ mod Entering
 mod Changing
 mod Lights
 pub mod Tapes
+mod Objecting

@@ -7,3 +7,4 @@ pub mod Tape
 pub mod Judge
 pub mod Law
 pub mod Known
+pub mod Objections

@@ -4,6 +4,7 @@ ghost use mathlib.Core.Path.{_≡_};
 ghost use mathlib.Core.Bool.{true};
 ghost use Rattle.rules.specs.Known.{Known};
 ghost use Rattle.rules.specs.Law.{Tape-law, Tape-goes-on};
+ghost use Rattle.rules.specs.Objections.{Objections};
 
 // The law of the tape: for every lawful ranking, every start of the board and every list of calls,
 // each entry of the tape passes the judge.
@@ -23,6 +24,13 @@ pub fn tape_goes_on() -> u8
 // The sweeps whose fills are known come out so.
 pub fn known_sweeps() -> u8
     ensures { λ _. ⌜ Known ≡ true ⌝ }
+{
+    0
+}
+
+// The judge is not empty: a tape with a fault of any of its kinds does not pass.
+pub fn judge_objects() -> u8
+    ensures { λ _. ⌜ Objections ⌝ }
 {
     0
 }
