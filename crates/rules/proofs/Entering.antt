@@ -32,7 +32,7 @@ use Rattle.rules.specs.Judge.{Sized, Measured, Fair-entry}
 use Rattle.rules.proofs.Branches.{by-test}
 use Rattle.rules.proofs.Finding.{found, found-tag, all-found, absent, found-put-in}
 use Rattle.rules.proofs.Conditions.{arrival-of, Order-kept, Side-kept, Apart, Sound, Agrees, living}
-use Rattle.rules.proofs.Sweeping.{Leaves-off, untraded, whole-sweep}
+use Rattle.rules.proofs.Sweeping.{Leaves-off, untraded, weight-at-most, whole-sweep}
 use Rattle.rules.proofs.Volumes.{volume-is}
 use Rattle.rules.proofs.Markets.{found-in, Kept, Matches, found-made, kept-made, quotes-made, arrivals-made, side-put, side-later, stand-sound, stand-agrees}
 
@@ -83,6 +83,15 @@ module _ (ranking : Ranking) (law : Ranks ranking) (m : Market) (a : Account) (k
       cond-both (leb (mtv-of (i .kind)) volume-before) (sweep 144 start) (swept [] start) (λ x. Leaves-off ranking (m .arrivals) start (added i a) x × Measured ranking a i (x .rows) volume-before)
       (λ t. let l = leb-true (mtv-of (i .kind)) volume-before t in (whole .leaves-off, record { volume-is = v; below = λ u. absurd (omega arith); reached = λ _. whole .fair }))
       (λ f. let l = leb-false (mtv-of (i .kind)) volume-before f in (untraded ranking (m .arrivals) start (added i a) ok ag, record { volume-is = v; below = λ _. refl; reached = λ u. absurd (omega arith) }))
+
+  pub few-rows : length (done .rows) ≤ 144
+  unfolding measured-sweep
+  few-rows =
+      let ok = stand-sound ranking m a k h i new in
+      let whole = whole-sweep ranking law (m .arrivals) start (added i a) ok (stand-agrees ranking m a k h i new) in
+      let w = weight-at-most ranking law (m .arrivals) start ok in
+      let f = whole .few in
+      cond-both (leb (mtv-of (i .kind)) volume-before) (sweep 144 start) (swept [] start) (λ x. length (x .rows) ≤ 144) (λ _. omega arith) (λ _. omega arith)
 
   -- what the sweep left of the entry
   abbrev left : Order

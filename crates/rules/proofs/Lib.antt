@@ -14,3 +14,4 @@ mod Changing
 mod Lights
 pub mod Tapes
 mod Objecting
+mod Shares

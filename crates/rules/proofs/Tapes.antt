@@ -43,13 +43,14 @@ use Rattle.rules.proofs.Quotations.{with-quote-lawful}
 use Rattle.rules.proofs.Conditions.{arrival-of, Order-kept, Side-kept, living, living-open, living-is}
 use Rattle.rules.proofs.Markets.{found-in, found-in-tag, Kept, Matches, order-of, order-at-rest, located-there, remainder-is, kept-found, resting-is}
 use Rattle.rules.proofs.Refusals.{decides-too-small, decides-leaves, enter-case, cancel-case, cut-case, post-case}
-use Rattle.rules.proofs.Entering.{same-arrival, entered-fair, entered-kept, entered-matches}
+use Rattle.rules.proofs.Entering.{few-rows, same-arrival, entered-fair, entered-kept, entered-matches}
 use Rattle.rules.proofs.Changing.{changed-kept, changed-matches, side-removed, found-removed, side-moved, found-moved, put-on-taken}
 use Rattle.rules.proofs.Lights.{lit-right, unlit-right}
 
 -- What a call does to an account and a market.
 pub record Good (ranking : Ranking) (a : Account) (c : Call) (room : ℕ) (o : Outcome) : Type 0 where
   pub judged : Judged ranking a (entry c room o)
+  pub few : length (o .rows) ≤ 144
   pub kept : Kept ranking (o .market)
   pub matches : Matches (reckon (entry c room o) a) (o .market)
 
@@ -75,8 +76,8 @@ allowed kind price shares some olo ilo = elim (cases-bool (too-small kind price 
     never (Ilo routing mtv mark) t s o i = i (refl, t)
 
 module _ (ranking : Ranking) (law : Ranks ranking) (m : Market) (a : Account) (k : Kept ranking m) (h : Matches a m) where
-  accepted-good : (c : Call) (room : ℕ) (w : Accepted) (rows : List Row) (then : Market) → First-case (Cases a c room) None → Fair-call ranking a c w rows → Kept ranking then → Matches (reckon-call c w rows a) then → Good ranking a c room (outcome (Ok w) rows then)
-  accepted-good c room w rows then f fair kept match = record {
+  accepted-good : (c : Call) (room : ℕ) (w : Accepted) (rows : List Row) (then : Market) → length rows ≤ 144 → First-case (Cases a c room) None → Fair-call ranking a c w rows → Kept ranking then → Matches (reckon-call c w rows a) then → Good ranking a c room (outcome (Ok w) rows then)
+  accepted-good c room w rows then few f fair kept match = record {
     judged = record {
       refusal = f;
       answer = fair;
@@ -85,6 +86,7 @@ module _ (ranking : Ranking) (law : Ranks ranking) (m : Market) (a : Account) (k
       unlit = unlit-right ranking then (reckon-call c w rows a) kept match;
       sized = sized-right ranking then (reckon-call c w rows a) kept match;
     };
+    few = few;
     kept = kept;
     matches = match;
   }
@@ -99,6 +101,7 @@ module _ (ranking : Ranking) (law : Ranks ranking) (m : Market) (a : Account) (k
       unlit = unlit-right ranking m a k h;
       sized = sized-right ranking m a k h;
     };
+    few = omega arith;
     kept = k;
     matches = h;
   }
@@ -132,7 +135,7 @@ module _ (ranking : Ranking) (law : Ranks ranking) (m : Market) (a : Account) (k
           let next-arrival : m .arrivals + 1 ≡ suc (a .accepted) = let n = h .accepted in omega arith in
           let done = measured-sweep (standing i (of-side side m) (of-side (opposite side) m) (m .quotes)) in
           let w = entered (done .stand .incoming) (length (done .rows)) in
-          accepted-good (call.Enter side price kind shares) room w (done .rows) (settled (terms ranking) done .market) f
+          accepted-good (call.Enter side price kind shares) room w (done .rows) (settled (terms ranking) done .market) (few-rows ranking law m a k h i refl) f
           (subst (λ j. Fair-entry ranking a (new-order j side price kind shares) w (done .rows)) next-arrival (entered-fair ranking law m a k h i refl))
           (entered-kept ranking law m a k h i refl sized room-left)
           (subst (λ j. Matches (change j (less (w .cancelled)) (reckon-rows (done .rows) (added (new-order j side price kind shares) a))) (settled (terms ranking) done .market)) (sym (same-arrival ranking law m a k h i refl)) (entered-matches ranking law m a k h i refl))
@@ -181,7 +184,7 @@ module _ (ranking : Ranking) (law : Ranks ranking) (m : Market) (a : Account) (k
       (λ _ e. absurd (passed NotResting f .0 (sym (remainder-is a m h j) ∙ ap open-of e)))
       (λ l _ e.
       let w = in-hand j l e in
-      accepted-good (call.Cancel j) room (accepted (l .order .arrival) 0 (l .order .«open») 0) [] (taken-off m l) f
+      accepted-good (call.Cancel j) room (accepted (l .order .arrival) 0 (l .order .«open») 0) [] (taken-off m l) (omega arith) f
       (w .tag, refl, refl, refl, sym (ap remainder-of (w .known)))
       (taken-kept j l w)
       (taken-matches j l w (less (l .order .«open»)) (cond-true _ _ _ (eq-eqb (l .order .«open» - l .order .«open») 0 (omega arith))))) refl)
@@ -192,7 +195,7 @@ module _ (ranking : Ranking) (law : Ranks ranking) (m : Market) (a : Account) (k
       cond-both (leaves n o) (cancelled m (Some l)) (cut-stayed (terms ranking) m l n) (Good ranking a (call.Cut j n) room)
       (λ t.
       let leaving = decides-leaves n o .0 t in
-      accepted-good (call.Cut j n) room (accepted (o .arrival) 0 (o .«open») 0) [] (taken-off m l) f
+      accepted-good (call.Cut j n) room (accepted (o .arrival) 0 (o .«open») 0) [] (taken-off m l) (omega arith) f
       (w .tag, refl, refl, (o, record { known = w .known; leaving = λ _. (refl, refl); staying = λ s. absurd (s leaving) }))
       (taken-kept j l w)
       (taken-matches j l w (cut-by n (o .«open»)) (cond-true _ _ _ (eq-eqb (o .«open» - o .«open») 0 (omega arith)))))
@@ -204,7 +207,7 @@ module _ (ranking : Ranking) (law : Ranks ranking) (m : Market) (a : Account) (k
       let still = side-moved ranking law (l .side) (m .arrivals) os (k .sides (l .side)) (l .place) o (w .placed) n s in
       let finds = found-moved ranking law (l .side) (m .arrivals) os (k .sides (l .side)) (l .place) o (w .placed) n s in
       let alive : living (Some (cut-down n o)) ≡ Some (cut-down n o) = living-open (cut-down n o) (elim (cases-lt n (o .«open»)) [ inl g ↦ omega arith | inr g ↦ absurd (stays (inl g)) ]) in
-      accepted-good (call.Cut j n) room (accepted (o .arrival) (o .«open» - n) n 0) [] (moved (terms ranking) m l n) f
+      accepted-good (call.Cut j n) room (accepted (o .arrival) (o .«open» - n) n 0) [] (moved (terms ranking) m l n) (omega arith) f
       (w .tag, refl, refl, (o, record { known = w .known; leaving = λ g. absurd (stays g); staying = λ _. (refl, refl) }))
       (subst (Kept ranking) market-is (changed-kept ranking m a k h (l .side) o ranked (Some (cut-down n o)) (w .found-there) still finds))
       (subst (λ x. Matches (change j (cut-by n n) a) x) market-is
@@ -232,7 +235,7 @@ module _ (ranking : Ranking) (law : Ranks ranking) (m : Market) (a : Account) (k
       let new : Quotes = with-quote (m .quotes) side number (posted price shares) in
       by-test (market-ok number) (λ x. market-ok number ≡ x → First-case (Cases a c room) (refusal-of (post-accepted (answer x (fits price shares)))) → Good ranking a c room (posting new (answer x (fits price shares))))
       (λ _ inside. by-test (fits price shares) (λ y. fits price shares ≡ y → First-case (Cases a c room) (refusal-of (post-accepted (answer true y))) → Good ranking a c room (posting new (answer true y)))
-      (λ _ t f. accepted-good c room (accepted 0 0 0 0) [] (market (m .bids) (m .offers) new (m .arrivals)) f (refl, refl, refl, refl, refl)
+      (λ _ t f. accepted-good c room (accepted 0 0 0 0) [] (market (m .bids) (m .offers) new (m .arrivals)) (omega arith) f (refl, refl, refl, refl, refl)
       (record { sides = λ s. sides-kept s new; apart = k .apart; quotes = with-quote-lawful (m .quotes) (k .quotes) side number (posted price shares) inside (posted-ok price shares t) })
       (record { resting = h .resting; quotes = ap (λ b. with-quote b side number (posted price shares)) (h .quotes); accepted = h .accepted }))
       (λ _ _ f. refused-good c room Quotation f) refl)
@@ -256,6 +259,14 @@ module _ (ranking : Ranking) (law : Ranks ranking) (m : Market) (a : Account) (k
   call-good (call.Cut arrival shares) room = cut-good arrival shares room
   call-good (call.Cancel arrival) room = cancel-good arrival room
   call-good (call.Post number side price shares) room = post-good number side price shares room
+
+-- What calls leave is kept, and of some account.
+pub reached : (ranking : Ranking) → Ranks ranking → (cs : List (Call × ℕ)) (m : Market) (a : Account) → Kept ranking m → Matches a m → (x : Account) × (Kept ranking (after (terms ranking) m cs) × Matches x (after (terms ranking) m cs))
+reached ranking law [] m a k h = (a, (k, h))
+reached ranking law (c ∷ cs) m a k h =
+    let o = apply (terms ranking) m (c .0) (c .1) in
+    let g = call-good ranking law m a k h (c .0) (c .1) in
+    reached ranking law cs (o .market) (reckon (entry (c .0) (c .1) o) a) (g .kept) (g .matches)
 
 -- The whole tape, call by call.
 tape-fair : (ranking : Ranking) → Ranks ranking → (cs : List (Call × ℕ)) (m : Market) (a : Account) → Kept ranking m → Matches a m → Fair-tape ranking a (tape (terms ranking) m cs)

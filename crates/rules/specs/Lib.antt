@@ -8,3 +8,4 @@ pub mod Judge
 pub mod Law
 pub mod Known
 pub mod Objections
+pub mod Keeping
