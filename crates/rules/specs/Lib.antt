@@ -3,3 +3,9 @@ pub mod Rankings
 pub mod Trading
 pub mod Sweeps
 pub mod Calls
+pub mod Tape
+pub mod Judge
+pub mod Law
+pub mod Known
+pub mod Objections
+pub mod Keeping
