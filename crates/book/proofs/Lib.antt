@@ -2,3 +2,4 @@ mod Loops
 mod Steps
 mod Entries
 mod Changes
+mod Tapes

@@ -84,8 +84,14 @@ fn calls_with_127_cells() -> Result<(), Fail> {
         &mut report,
     );
     check_eq(answer, Err(Refusal::SideCells))?;
-    check_eq(book.cut(1, 1, &mut short, &mut bids), Err(Refusal::SideCells))?;
-    check_eq(book.cancel(1, &mut bids, &mut short), Err(Refusal::SideCells))?;
+    check_eq(
+        book.cut(1, 1, &mut short, &mut bids),
+        Err(Refusal::SideCells),
+    )?;
+    check_eq(
+        book.cancel(1, &mut bids, &mut short),
+        Err(Refusal::SideCells),
+    )?;
     check_eq(book.open(1, &bids, &short), Err(Refusal::SideCells))?;
     check_eq(book.light(&short, &bids), Err(Refusal::SideCells))
 }
@@ -110,14 +116,20 @@ fn short_reports_and_lists() -> Result<(), Fail> {
         &mut report,
     );
     check_eq(answer, Err(Refusal::ShortReport)).note("before the price")?;
-    check_eq(book.list(&bids, &offers, &mut [NOBODY; 255]), Err(Refusal::ShortReport))?;
+    check_eq(
+        book.list(&bids, &offers, &mut [NOBODY; 255]),
+        Err(Refusal::ShortReport),
+    )?;
     check_eq(book.list(&bids, &offers, &mut [NOBODY; 256]), Ok(0))
 }
 
 #[test]
 fn short_listings() -> Result<(), Fail> {
     let mut listing = [7u8; 65_535];
-    check_eq(run_session(b"\x00\x00", &mut listing), Err(Refusal::ShortListing))?;
+    check_eq(
+        run_session(b"\x00\x00", &mut listing),
+        Err(Refusal::ShortListing),
+    )?;
     check_eq(run_session(b"", &mut listing), Err(Refusal::ShortListing)).note("before the file")?;
     check(listing[0] == 7 && listing[65_534] == 7)
 }
@@ -175,8 +187,14 @@ fn cuts_at_the_least_size() -> Result<(), Fail> {
     };
     let answer = sell(&mut book, Kind::Olo, 700, 2, &mut bids, &mut offers);
     check_eq(answer, answered(2, 700, 0))?;
-    check_eq(book.cut(1, 200, &mut bids, &mut offers), answered(1, 500, 200))?;
-    check_eq(book.cut(2, 201, &mut bids, &mut offers), answered(2, 0, 700))?;
+    check_eq(
+        book.cut(1, 200, &mut bids, &mut offers),
+        answered(1, 500, 200),
+    )?;
+    check_eq(
+        book.cut(2, 201, &mut bids, &mut offers),
+        answered(2, 0, 700),
+    )?;
     check_eq(book.open(1, &bids, &offers), Ok(500))?;
     check_eq(book.open(2, &bids, &offers), Ok(0))
 }
