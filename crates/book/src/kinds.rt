@@ -74,25 +74,13 @@ pub fn is_cancelled(kind: Kind) -> bool
     }
 }
 
-// Which kinds meet: a row for each kind of the incoming order, displayed, dark, OLO and ILO, and in
+// Which kinds meet, displayed, dark, OLO and ILO: a row for each kind of the incoming order, and in
 // it an entry for each kind of the resting one.
-const KINDS_MEET: [bool; 16] = [
-    true,
-    true,
-    false,
-    true, // displayed
-    true,
-    true,
-    false,
-    true, // dark
-    false,
-    false,
-    false,
-    true, // OLO
-    true,
-    true,
-    true,
-    true, // ILO
+const KINDS_MEET: [[bool; 4]; 4] = [
+    [true, true, false, true],
+    [true, true, false, true],
+    [false, false, false, true],
+    [true, true, true, true],
 ];
 
 fn kind_row(kind: Kind) -> usize
@@ -109,7 +97,7 @@ fn kind_row(kind: Kind) -> usize
 pub fn kinds_meet(incoming: Kind, resting: Kind) -> bool
     ensures { λ r. ⌜ r ≡ meets incoming resting ⌝ }
 {
-    KINDS_MEET[4 * kind_row(incoming) + kind_row(resting)]
+    KINDS_MEET[kind_row(incoming)][kind_row(resting)]
 }
 
 // Whether a kind does not allow a ranking size at a price. An ILO needs 5,000 shares, and price
