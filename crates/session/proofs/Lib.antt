@@ -8,3 +8,4 @@ mod LayingOut
 mod Laws
 mod Packing
 mod Writes
+mod Firsts

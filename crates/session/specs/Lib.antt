@@ -3,3 +3,4 @@ pub mod Lines
 pub mod Files
 pub mod Written
 pub mod Packing
+pub mod Faults

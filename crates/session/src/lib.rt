@@ -3,6 +3,7 @@ ghost use mathlib.Core.Path.{_≡_};
 ghost use mathlib.Core.List.{List};
 ghost use Prim.Native.Nat.{_≤_};
 ghost use Rattle.shelf.specs.Standing.{nth};
+ghost use Rattle.session.specs.Faults.{Refused-first};
 ghost use Rattle.session.specs.Files.{checked, line-at, count-of, refused, wrong-body};
 ghost use Rattle.session.specs.Lines.{Line, line-in};
 ghost use Rattle.session.specs.Written.{file-bytes, Fitting, Answered, Reads-back, Only-written, One-reading};
@@ -88,11 +89,13 @@ pub fn body_at(file: &[u8], index: usize) -> Option<Body<'_>>
 }
 
 // What reading has to do with writing: lines that fit, written out, read back as themselves, no
-// other file is accepted, and no file says two lists of lines.
+// other file is accepted, no file says two lists of lines, and a body is refused at the first field
+// with which it begins as no lawful line does.
 pub fn reading_laws() -> u8
     ensures back { λ _. ⌜ Reads-back ⌝ }
     ensures only { λ _. ⌜ Only-written ⌝ }
     ensures one { λ _. ⌜ One-reading ⌝ }
+    ensures first { λ _. ⌜ Refused-first ⌝ }
 {
     0
 }
