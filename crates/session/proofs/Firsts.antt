@@ -30,7 +30,7 @@ use Rattle.session.specs.Written.{words, spaced, Lawful-line}
 use Rattle.session.specs.Faults.{begins, Begins-line, First-malformed, Refused-first}
 use Rattle.session.proofs.Words.{by-test}
 use Rattle.session.proofs.Spacing.{spaced-fields}
-use Rattle.session.proofs.Reading.{Pass, Passed, pass-more, pass-end, pass-number, pass-two, pass-side, pass-mark, pass-routing, pass-ilo-side, pass-kind, pass-words, stepped, missing, read-after, words-lawful}
+use Rattle.session.proofs.Lines.{Pass, Passed, pass-more, pass-end, pass-number, pass-two, pass-side, pass-mark, pass-routing, pass-ilo-side, pass-kind, pass-words, stepped, missing, read-after, words-lawful}
 
 -- an empty field is never what is wanted
 after-empty : (wanted next : Wanted) → after wanted [] ≡ Ok next → ⊥

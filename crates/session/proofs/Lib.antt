@@ -3,7 +3,7 @@ mod Words
 mod Entries
 mod Spacing
 mod Values
-mod Reading
+mod Lines
 mod LayingOut
 mod Laws
 mod Packing
