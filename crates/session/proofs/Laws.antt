@@ -8,12 +8,15 @@ use native.Mathlib.Omega.{arith}
 use native.Mathlib.Nat.{zero-add}
 use lib.Dec.{eqb, ltb}
 use lib.ListN.{length, getD}
+use mir.Val.{Fits}
+use mir.Syntax.{w8}
 use Rattle.std.specs.shelf.Lists.{All}
 use Rattle.std.specs.declared.option.Option.{Option}
 use Rattle.std.specs.declared.option.Option.the-variants.{Some, None}
 use Rattle.std.specs.declared.result.Result.{Result}
 use Rattle.std.specs.declared.result.Result.the-variants.{Ok, Err}
 use Rattle.std.proofs.shelf.Lists.{length-map}
+use Rattle.std.proofs.shelf.Elements.{all-from-getD}
 use Rattle.std.proofs.shelf.Tests.{cases-lt, cond-true, cond-false, lt-ltb, le-ltb}
 use Rattle.std.proofs.shelf.Ways.{tells}
 use Rattle.market.specs.declared.types.Refusal.{Refusal}
@@ -21,10 +24,10 @@ use Rattle.market.specs.declared.types.Refusal.the-variants.{FileSize, Contents
 use Rattle.shelf.specs.Standing.{nth}
 use Rattle.session.specs.Fields.{Malformed, fault-of}
 use Rattle.session.specs.Lines.{Line, read-line}
-use Rattle.session.specs.Files.{count-of, offset-of, body-in, wrong-size, wrong-entry, wrong-body, refusal-of, refused, checked, line-at}
-use Rattle.session.specs.Written.{body-bytes, layout, file-bytes, Lawful-line, Fitting, Bytes, Reads-back, Only-written, One-reading, Answered}
+use Rattle.session.specs.Files.{count-of, offset-of, body-in, wrong-size, wrong-entry, wrong-body, refusal-of, refused, checked, line-at, lines-from, taken-in, read-file, counted}
+use Rattle.session.specs.Written.{body-bytes, layout, file-bytes, Lawful-line, Fitting, Bytes, Reads-back, Only-written, One-reading, Answered, Reads-exactly}
 use Rattle.session.proofs.Words.{by-test}
-use Rattle.session.proofs.Reading.{body-clean, body-reads, body-lawful}
+use Rattle.session.proofs.Lines.{body-clean, body-reads, body-lawful}
 use Rattle.session.proofs.LayingOut.{bodies-from, length-bodies, right-layout, Laid, laid}
 
 pub by-option : {X : Type 0} (o : Option X) (P : Option X → Type 0) → (o ≡ None → P None) → ((x : X) → o ≡ Some x → P (Some x)) → P o
@@ -167,3 +170,60 @@ answered file (Err f) b e = λ lines h g. let w = written-accepted lines h in le
 
 pub line-written : (file : List ℕ) (i : ℕ) (o : Option Line) → o ≡ line-at file i → (lines : List Line) → Fitting lines → file ≡ file-bytes lines → o ≡ nth i lines
 line-written file i o v lines h e = v ∙ ap (λ f. line-at f i) e ∙ written-lines lines (h .0) i
+
+-- Reading a file as a whole.
+
+lines-from-are : (file : List ℕ) (k j : ℕ) (lines : List Line) → All Lawful-line lines → bodies-from file k j ≡ map body-bytes lines → lines-from file k j ≡ lines
+lines-from-are file zero j [] h e = refl
+lines-from-are file zero j (x ∷ xs) h e = absurd (let z : _≡_ {A = ℕ} 0 1 = cc in omega arith)
+lines-from-are file (suc k) j [] h e = absurd (let z : _≡_ {A = ℕ} 0 1 = cc in omega arith)
+lines-from-are file (suc k) j (x ∷ xs) h e =
+    let b : body-in file j ≡ body-bytes x = cc in
+    let c : bodies-from file k (suc j) ≡ map body-bytes xs = cc in
+    ap (λ o. taken-in o (lines-from file k (suc j))) (ap read-line b ∙ body-reads x (h .0)) ∙ ap (λ ls. x ∷ ls) (lines-from-are file k (suc j) xs (h .1) c)
+
+refused-none : {A : Type 0} (o : Option Refusal) (n m : A) → refused n o ≡ Ok m → (o ≡ None) × (n ≡ m)
+refused-none None n m e = (refl, cc)
+refused-none (Some r) n m e = absurd (let z : _≡_ {A = ℕ} 0 1 = cc in omega arith)
+
+pub read-written : (lines : List Line) → Fitting lines → read-file (file-bytes lines) ≡ Ok lines
+unfolding read-file
+read-written lines h =
+    let f = file-bytes lines in
+    let d = laid (map body-bytes lines) in
+    let r = refused-none (refusal-of f) (count-of f) (length lines) (written-accepted lines h) in
+    ap (refused (lines-from f (count-of f) 0)) (r .0) ∙ ap (λ (ls : List Line). Ok ls) (lines-from-are f (count-of f) 0 lines (h .0) (ap (λ k. bodies-from f k 0) (d .count) ∙ d .bodies))
+
+read-checked : (file : List ℕ) (lines : List Line) → read-file file ≡ Ok lines → checked file ≡ Ok (count-of file)
+unfolding read-file
+read-checked file lines e = ap (refused (count-of file)) (refused-none (refusal-of file) (lines-from file (count-of file) 0) lines e .0)
+
+pub reads-exactly : Reads-exactly
+reads-exactly file lines b = (only, λ h e. ap read-file e ∙ read-written lines h)
+  where
+    only : read-file file ≡ Ok lines → Fitting lines × (file ≡ file-bytes lines)
+    only e =
+        let w = only-written file (count-of file) b (read-checked file lines e) in
+        let r = ap read-file (w .3) ∙ read-written (w .0) (w .1) in
+        let j : w .0 ≡ lines = cc in
+        (subst Fitting j (w .1), w .3 ∙ ap file-bytes j)
+
+pub checked-counted : (file : List ℕ) (r : Result ℕ Refusal) → Bytes file → r ≡ checked file → r ≡ counted (read-file file)
+unfolding read-file
+checked-counted file r b e =
+    by-option (refusal-of file) (λ o. refusal-of file ≡ o → r ≡ refused (count-of file) o → r ≡ counted (refused (lines-from file (count-of file) 0) o))
+    (λ _ n h.
+    let w = only-written file (count-of file) b (ap (refused (count-of file)) n) in
+    let q = ap read-file (w .3) ∙ read-written (w .0) (w .1) in
+    let l : lines-from file (count-of file) 0 ≡ w .0 = refused-none (refusal-of file) (lines-from file (count-of file) 0) (w .0) q .1 in
+    h ∙ ap (λ (k : ℕ). Ok k) (sym (w .2) ∙ ap length (sym l)))
+    (λ x _ n h. h)
+    refl e
+
+pub line-read : (file : List ℕ) (i : ℕ) (o : Option Line) → Bytes file → o ≡ line-at file i → (lines : List Line) → read-file file ≡ Ok lines → o ≡ nth i lines
+line-read file i o b v lines e =
+    let w = reads-exactly file lines b .0 e in
+    line-written file i o v lines (w .0) (w .1)
+
+pub bytes-of : (xs : List ℕ) → ((i : ℕ) → Fits w8 (getD xs i 0)) → Bytes xs
+bytes-of xs h = all-from-getD (λ b. b < 256) xs 0 (λ i _. let f = h i in omega arith)

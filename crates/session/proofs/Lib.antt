@@ -4,8 +4,9 @@ mod Words
 mod Entries
 mod Spacing
 mod Values
-mod Reading
+mod Lines
 mod LayingOut
 mod Laws
 mod Packing
 mod Writes
+mod Firsts

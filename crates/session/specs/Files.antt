@@ -68,3 +68,20 @@ checked file = refused (count-of file) (refusal-of file)
 -- the body of an index
 abbrev pub line-at : List ℕ → ℕ → Option Line
 line-at file i = cond (ltb i (count-of file)) (read-line (body-in file i)) None
+
+abbrev pub taken-in : Option Line → List Line → List Line
+taken-in None lines = lines
+taken-in (Some line) lines = line ∷ lines
+
+-- the lines of the k bodies from i on
+abbrev pub lines-from : List ℕ → ℕ → ℕ → List Line
+lines-from file zero i = []
+lines-from file (suc k) i = taken-in (read-line (body-in file i)) (lines-from file k (suc i))
+
+-- all the lines of a file, or why it is refused
+unfoldable pub read-file : List ℕ → Result (List Line) Refusal
+read-file file = refused (lines-from file (count-of file) 0) (refusal-of file)
+
+abbrev pub counted : Result (List Line) Refusal → Result ℕ Refusal
+counted (Ok lines) = Ok (length lines)
+counted (Err refusal) = Err refusal

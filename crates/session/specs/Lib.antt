@@ -5,3 +5,4 @@ pub mod Written
 pub mod Listing
 pub mod Calls
 pub mod Packing
+pub mod Faults

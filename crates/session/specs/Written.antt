@@ -24,7 +24,7 @@ use Rattle.rules.specs.declared.types.Mark.the-variants as mark
 use Rattle.shelf.specs.Standing.{nth}
 use Rattle.session.specs.Fields.{is-label}
 use Rattle.session.specs.Lines.{Line, New, Cut, Cancel, Post}
-use Rattle.session.specs.Files.{checked, line-at}
+use Rattle.session.specs.Files.{checked, line-at, read-file}
 
 abbrev pub side-bytes : Side → List ℕ
 side-bytes Buy = codes "B"
@@ -112,6 +112,10 @@ Reads-back = (lines : List Line) → Fitting lines → (checked (file-bytes line
 -- no other file is accepted
 abbrev pub Only-written : Type 0
 Only-written = (file : List ℕ) (n : ℕ) → Bytes file → checked file ≡ Ok n → (lines : List Line) × Fitting lines × (length lines ≡ n) × (file ≡ file-bytes lines)
+
+-- a file is read as some lines exactly if they fit and it is what they are written as
+abbrev pub Reads-exactly : Type 0
+Reads-exactly = (file : List ℕ) (lines : List Line) → Bytes file → (read-file file ≡ Ok lines → Fitting lines × (file ≡ file-bytes lines)) × (Fitting lines → file ≡ file-bytes lines → read-file file ≡ Ok lines)
 
 -- a file says one list of lines at most
 abbrev pub One-reading : Type 0

@@ -68,7 +68,7 @@ pub fn is_a_label(field: &[u8]) -> bool
     field.len() > 0 && field.len() <= 12 && all_belong_to(Alphabet::LabelLetters, field)
 }
 
-// The letter of a field of exactly one byte.
+// The letter of a field of exactly one byte. A field of more has no letter, whatever it begins with.
 fn sole_letter(field: &[u8]) -> Option<char>
     ensures { λ r. ⌜ r ≡ sole (now (field .entry)) ⌝ }
 {
@@ -162,7 +162,7 @@ pub fn is_end(wanted: Wanted) -> bool
     }
 }
 
-// The fields of an order's shares, price and quantities are numbers, so what follows them is told.
+// What is wanted behind a number, which `next` says.
 fn after_number(field: &[u8], next: Wanted) -> Result<Wanted, Fault>
     ensures { λ r. ⌜ r ≡ then (number (now (field .entry))) (λ _. next) ⌝ }
 {

@@ -44,7 +44,7 @@ use Rattle.session.proofs.Values.{number-decimal, number-is, side-is, routing-
 pub record Pass (wanted : Wanted) (ws : List (List ℕ)) : Type 0 where
   pub clean : (at : ℕ) → fault-from wanted ws at ≡ None
 
-pass-more : (wanted : Wanted) (w : List ℕ) (ws : List (List ℕ)) (next : Wanted) → after wanted w ≡ Ok next → 0 < length w → Pass next ws → Pass wanted (w ∷ ws)
+pub pass-more : (wanted : Wanted) (w : List ℕ) (ws : List (List ℕ)) (next : Wanted) → after wanted w ≡ Ok next → 0 < length w → Pass next ws → Pass wanted (w ∷ ws)
 pass-more wanted w ws next e h p =
     let r : read-field wanted w (none ws) ≡ Ok next = not-missing (none ws) (length w) h ∙ e in
     record { clean = λ at. ap (λ x. elim x [ Ok n ↦ fault-from n ws (at + length w + 1) | Err f ↦ Some (record { fault = f; place = at }) ]) r ∙ p .clean (at + length w + 1) }
@@ -53,28 +53,28 @@ pass-more wanted w ws next e h p =
     not-missing true l k = grind (arith, tells)
     not-missing false l k = refl
 
-pass-end : Pass want.End []
+pub pass-end : Pass want.End []
 pass-end = record { clean = λ at. refl }
 
-pass-number : (wanted next : Wanted) (n : ℕ) (ws : List (List ℕ)) → ((w : List ℕ) → after wanted w ≡ then (number w) (λ _. next)) → Small n → Pass next ws → Pass wanted (decimal n ∷ ws)
+pub pass-number : (wanted next : Wanted) (n : ℕ) (ws : List (List ℕ)) → ((w : List ℕ) → after wanted w ≡ then (number w) (λ _. next)) → Small n → Pass next ws → Pass wanted (decimal n ∷ ws)
 pass-number wanted next n ws is h p = pass-more wanted (decimal n) ws next (is (decimal n) ∙ ap (λ r. then r (λ _. next)) (number-decimal n h)) (decimal-long n h) p
 
-pass-two : (p n : ℕ) → Small p → Small n → Pass want.Price (decimal p ∷ decimal n ∷ [])
+pub pass-two : (p n : ℕ) → Small p → Small n → Pass want.Price (decimal p ∷ decimal n ∷ [])
 pass-two p n h k = pass-number want.Price want.Shares p _ (λ w. refl) h (pass-number want.Shares want.End n [] (λ w. refl) k pass-end)
 
-pass-side : (s : Side) (p n : ℕ) → Small p → Small n → Pass want.Side (side-bytes s ∷ decimal p ∷ decimal n ∷ [])
+pub pass-side : (s : Side) (p n : ℕ) → Small p → Small n → Pass want.Side (side-bytes s ∷ decimal p ∷ decimal n ∷ [])
 pass-side Buy p n h k = pass-more want.Side _ _ want.Price refl (lit< tt) (pass-two p n h k)
 pass-side Sell p n h k = pass-more want.Side _ _ want.Price refl (lit< tt) (pass-two p n h k)
 
-pass-mark : (m : Mark) → Pass want.Mark (mark-bytes m ∷ [])
+pub pass-mark : (m : Mark) → Pass want.Mark (mark-bytes m ∷ [])
 pass-mark mark.Rest = pass-more want.Mark _ [] want.End refl (lit< tt) pass-end
 pass-mark mark.Cancel = pass-more want.Mark _ [] want.End refl (lit< tt) pass-end
 
-pass-routing : (r : Routing) (v : ℕ) (m : Mark) → Small v → Pass want.Routing (routing-bytes r ∷ decimal v ∷ mark-bytes m ∷ [])
+pub pass-routing : (r : Routing) (v : ℕ) (m : Mark) → Small v → Pass want.Routing (routing-bytes r ∷ decimal v ∷ mark-bytes m ∷ [])
 pass-routing Type1 v m h = pass-more want.Routing _ _ want.Mtv refl (lit< tt) (pass-number want.Mtv want.Mark v _ (λ w. refl) h (pass-mark m))
 pass-routing Type2 v m h = pass-more want.Routing _ _ want.Mtv refl (lit< tt) (pass-number want.Mtv want.Mark v _ (λ w. refl) h (pass-mark m))
 
-pass-ilo-side : (s : Side) (p n : ℕ) (r : Routing) (v : ℕ) (m : Mark) → Small p → Small n → Small v → Pass want.IloSide (side-bytes s ∷ decimal p ∷ decimal n ∷ routing-bytes r ∷ decimal v ∷ mark-bytes m ∷ [])
+pub pass-ilo-side : (s : Side) (p n : ℕ) (r : Routing) (v : ℕ) (m : Mark) → Small p → Small n → Small v → Pass want.IloSide (side-bytes s ∷ decimal p ∷ decimal n ∷ routing-bytes r ∷ decimal v ∷ mark-bytes m ∷ [])
 pass-ilo-side s p n r v m h k l =
     let q = pass-number want.IloPrice want.IloShares p _ (λ w. refl) h (pass-number want.IloShares want.Routing n _ (λ w. refl) k (pass-routing r v m l)) in
     pass-more want.IloSide (side-bytes s) _ want.IloPrice (ap (λ x. then x (λ _. want.IloPrice)) (side-reads s)) (long s) q
@@ -83,7 +83,7 @@ pass-ilo-side s p n r v m h k l =
     long Buy = lit< tt
     long Sell = lit< tt
 
-pass-kind : (k : Kind) (s : Side) (p n : ℕ) → Lawful-kind k → Small p → Small n → Pass want.Kind (kind-bytes k ∷ side-bytes s ∷ decimal p ∷ decimal n ∷ ilo-words k)
+pub pass-kind : (k : Kind) (s : Side) (p n : ℕ) → Lawful-kind k → Small p → Small n → Pass want.Kind (kind-bytes k ∷ side-bytes s ∷ decimal p ∷ decimal n ∷ ilo-words k)
 pass-kind Displayed s p n l h k = pass-more want.Kind _ _ want.Side refl (lit< tt) (pass-side s p n h k)
 pass-kind Dark s p n l h k = pass-more want.Kind _ _ want.Side refl (lit< tt) (pass-side s p n h k)
 pass-kind Olo s p n l h k = pass-more want.Kind _ _ want.Side refl (lit< tt) (pass-side s p n h k)
@@ -191,7 +191,7 @@ pub record Began {A : Type 0} (write : A → List ℕ) (Good : A → Type 0) (ne
   pub is : ws ≡ write value ∷ rest
   pub passed : Passed (next value) rest
 
-read-after : (wanted : Wanted) (w : List ℕ) (last : Bool) (next : Wanted) → read-field wanted w last ≡ Ok next → after wanted w ≡ Ok next
+pub read-after : (wanted : Wanted) (w : List ℕ) (last : Bool) (next : Wanted) → read-field wanted w last ≡ Ok next → after wanted w ≡ Ok next
 read-after wanted w last next e =
     by-test (last && eqb (length w) 0) (λ b. cond b (cond (is-end wanted) (Err Surplus) (Err Missing)) (after wanted w) ≡ Ok next → after wanted w ≡ Ok next)
     (λ t h. absurd (never (is-end wanted) h)) (λ t h. h) e
@@ -206,14 +206,14 @@ pub record Stepped (wanted : Wanted) (w : List ℕ) (ws : List (List ℕ)) : Typ
   pub reads : after wanted w ≡ Ok next
   pub passed : Passed next ws
 
-stepped : (wanted : Wanted) (w : List ℕ) (ws : List (List ℕ)) → Passed wanted (w ∷ ws) → Stepped wanted w ws
+pub stepped : (wanted : Wanted) (w : List ℕ) (ws : List (List ℕ)) → Passed wanted (w ∷ ws) → Stepped wanted w ws
 stepped wanted w ws p = by-read (read-field wanted w (none ws)) refl (p .clean)
   where
     by-read : (r : Result Wanted Fault) → read-field wanted w (none ws) ≡ r → _≡_ {A = Option Malformed} (elim r [ Ok n ↦ fault-from n ws (p .at + length w + 1) | Err f ↦ Some (record { fault = f; place = p .at }) ]) None → Stepped wanted w ws
     by-read (Ok n) e h = record { next = n; reads = read-after wanted w (none ws) n e; passed = record { at = p .at + length w + 1; clean = h } }
     by-read (Err f) e h = absurd (let z : _≡_ {A = ℕ} 0 1 = cc in omega arith)
 
-missing : (b : Bool) (m : Malformed) → b ≡ false → _≡_ {A = Option Malformed} (cond b None (Some m)) None → ⊥
+pub missing : (b : Bool) (m : Malformed) → b ≡ false → _≡_ {A = Option Malformed} (cond b None (Some m)) None → ⊥
 missing true m e h = let z : _≡_ {A = ℕ} 0 1 = cc in omega arith
 missing false m e h = let z : _≡_ {A = ℕ} 0 1 = cc in omega arith
 
@@ -332,11 +332,16 @@ called letter.Post ws p =
     let b = sided-numbers (a .rest) (a .passed) in
     (Post (a .value) (b .0) (b .1) (b .2), (a .good, b .3, b .4), ap (λ r. letter-bytes letter.Post ∷ r) (a .is ∙ ap (λ r. decimal (a .value) ∷ r) (b .5)))
 
+-- words that pass are those of a lawful line
+pub words-lawful : (ws : List (List ℕ)) → Passed want.First ws → (line : Line) × Lawful-line line × (ws ≡ words line)
+words-lawful ws p =
+    let a = began first-letter letter-bytes Any (λ w l f. (tt, letter-is w l f)) want.First begun refl (λ w. refl) ws p in
+    let c = called (a .value) (a .rest) (a .passed) in
+    (c .0, c .1, a .is ∙ c .2)
+
 -- a body without a fault is a lawful line, written
 pub body-lawful : (b : List ℕ) → fault-of b ≡ None → (line : Line) × Lawful-line line × (b ≡ body-bytes line)
 unfolding body-bytes fault-past
 body-lawful b e =
-    let p : Passed want.First (fields b) = record { at = 0; clean = e } in
-    let a = began first-letter letter-bytes Any (λ w l f. (tt, letter-is w l f)) want.First begun refl (λ w. refl) (fields b) p in
-    let c = called (a .value) (a .rest) (a .passed) in
-    (c .0, c .1, sym (spaced-fields b) ∙ ap spaced (a .is ∙ c .2))
+    let l = words-lawful (fields b) (record { at = 0; clean = e }) in
+    (l .0, l .1, sym (spaced-fields b) ∙ ap spaced (l .2))

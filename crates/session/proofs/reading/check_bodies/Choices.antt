@@ -3,7 +3,7 @@ use Prim.Native.Nat.{_-_, _≤_}
 use lib.ListN.{length}
 use Rattle.session.specs.Fields.{fault-past, fault-of}
 use Rattle.session.specs.Files.{wrong-body}
-use Rattle.session.proofs.check_bodies.Given as given
+use Rattle.session.proofs.reading.check_bodies.Given as given
 
 -- the fields that are left decide about the body
 abbrev pub Inv-loop-next : given.InvT-loop-next

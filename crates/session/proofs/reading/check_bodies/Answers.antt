@@ -9,8 +9,8 @@ use Rattle.session.specs.Fields.{Malformed, is-end}
 use Rattle.session.specs.Files.{offset-of}
 use Rattle.session.proofs.Words.{within-word}
 use Rattle.session.proofs.Entries.{past-wrong, past-right, past-last, stopped, passed}
-use Rattle.session.proofs.check_bodies.Needs as need
-use Rattle.session.proofs.check_bodies.Needs.{in-Err, in-Ok·then-end-body·then-not-is-end}
+use Rattle.session.proofs.reading.check_bodies.Needs as need
+use Rattle.session.proofs.reading.check_bodies.Needs.{in-Err, in-Ok·then-end-body·then-not-is-end}
 
 pub loop-next-holds : need.loop-next-holds
 loop-next-holds c = (omega arith, refl)

@@ -1,5 +1,0 @@
-use Rattle.session.proofs.Laws.{reads-back, only-written, one-reading}
-use Rattle.session.proofs.reading_laws.Needs as need
-
-pub returns : need.returns
-returns c = record { back = reads-back; only = only-written; one = one-reading }
