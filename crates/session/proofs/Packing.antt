@@ -15,7 +15,7 @@ use Rattle.session.specs.Fields.{word}
 use Rattle.session.specs.Written.{short, contents, layout}
 use Rattle.session.specs.Packing.{lines-in, later-lines, begun-line, unparted, packed}
 use Rattle.session.proofs.Words.{by-test, word-le, word-take}
-use Rattle.session.proofs.Writes.{behind-more}
+use Rattle.shelf.proofs.Cells.{drop-later}
 use Rattle.session.proofs.LayingOut.{length-contents}
 
 later-are : (xs : List ℕ) → later-lines xs ≡ lines-in (drop (suc (length (word 10 xs))) xs)
@@ -104,6 +104,6 @@ pub written-out : (ls : List (List ℕ)) (out out1 out2 out3 : List ℕ) (f t : 
     → out3 ≡ layout ls ++ drop t out
 unfolding layout
 written-out ls out out1 out2 out3 f t e k s1 b1 s2 b2 s3 b3 =
-    let b : drop t out3 ≡ drop t out = b3 ∙ behind-more out2 out1 f t (omega arith) b2 ∙ behind-more out1 out 2 t (omega arith) b1 in
+    let b : drop t out3 ≡ drop t out = b3 ∙ drop-later out2 out1 f t (omega arith) b2 ∙ drop-later out1 out 2 t (omega arith) b1 in
     let s : take t out3 ≡ short (length ls) ++ contents f ls ++ joined (λ b. b) ls = s3 ∙ ap (λ ys. ys ++ joined (λ b. b) ls) (s2 ∙ ap (λ ys. ys ++ contents f ls) s1) in
     sym (take-append-drop t out3) ∙ ap (λ ys. ys ++ drop t out3) s ∙ ap (λ n. short (length ls) ++ contents n ls ++ joined (λ b. b) ls ++ drop t out3) e ∙ ap (λ ys. short (length ls) ++ contents (2 + 4 * length ls) ls ++ joined (λ b. b) ls ++ ys) b

@@ -9,7 +9,7 @@ use lib.ListN.{length, getD, drop}
 use Rattle.std.specs.declared.option.Option.{Option}
 use Rattle.std.specs.declared.option.Option.the-variants.{Some, None}
 use Rattle.std.proofs.shelf.Lists.{drop-more, drop-all}
-use Rattle.std.proofs.shelf.Tests.{cases-bool, cond-both}
+use Rattle.std.proofs.shelf.Tests.{cases-bool}
 use Rattle.std.proofs.shelf.Ways.{tells}
 use Rattle.shelf.specs.declared.types.Placed.{Placed}
 use Rattle.shelf.specs.Standing.{first, first-at, nth}
@@ -27,18 +27,6 @@ module _ {X : Type 0} where
 
   pub first-all : (p : X → Bool) (xs : List X) (i : ℕ) → length xs ≤ i → first p (drop i xs) i ≡ None
   first-all p xs i h = ap (λ ys. first p ys i) (drop-all i xs h)
-
-  -- what a search finds stands in the list
-  pub first-within : (p : X → Bool) (xs : List X) (n : ℕ) (c : Placed X) → Some c ≡ first p xs n → c .place < n + length xs
-  first-within p [] n c e = let z : _≡_ {A = ℕ} 0 1 = cc in absurd (omega arith)
-  first-within p (x ∷ xs) n c e =
-      let h = first-within p xs (suc n) c in
-      cond-both (p x) (Some (record { place = n; item = x })) (first p xs (suc n)) (λ r. Some c ≡ r → c .place < n + suc (length xs))
-      (λ _ f. let g : c .place ≡ n = ap place-of f in omega arith)
-      (λ _ f. let g = h f in omega arith) e where
-        place-of : Option (Placed X) → ℕ
-        place-of None = 0
-        place-of (Some k) = k .place
 
   pub nth-here : (xs : List X) (n : ℕ) (d : X) → n < length xs → nth n xs ≡ Some (getD xs n d)
   nth-here [] n d h = absurd (omega arith)
@@ -73,3 +61,7 @@ module _ {X : Type 0} where
   pub found-place : (p : X → Bool) (xs : List X) (n : ℕ) (w : Placed X) → first p xs n ≡ Some w → (w .place ≡ n + first-at p xs) × (first-at p xs < length xs)
   found-place p [] n w e = let z : _≡_ {A = ℕ} 0 1 = cc in absurd (omega arith)
   found-place p (x ∷ xs) n w e = let ih = found-place p xs (suc n) w in (grind (arith, tells, cases-bool (p x)), grind (arith, tells, cases-bool (p x)))
+
+  -- what a search finds stands in the list
+  pub first-within : (p : X → Bool) (xs : List X) (n : ℕ) (c : Placed X) → Some c ≡ first p xs n → c .place < n + length xs
+  first-within p xs n c e = let f = found-place p xs n c (sym e) in omega arith
