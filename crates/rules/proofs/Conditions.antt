@@ -27,7 +27,7 @@ use Rattle.rules.specs.Trading.{Stand, Bests, bests, no-better, worse-than, al
 use Rattle.rules.specs.Calls.{or-else}
 use Rattle.rules.specs.Tape.{Account}
 use Rattle.rules.specs.Judge.{Better, None-better, Rests, First-four, Displayed-worse, May-trade, Sized}
-use Rattle.rules.proofs.Branches.{by-option, some-is, none-some}
+use Rattle.rules.proofs.Branches.{by-option, none-some, never-some}
 use Rattle.rules.proofs.Finding.{found, found-tag, all-found, all-from-found}
 use Rattle.rules.proofs.Quotations.{decides-better, decides-not-better, decides-none-better}
 
@@ -96,10 +96,8 @@ module _ (ranking : Ranking) (n : ℕ) (s : Stand) (a : Account) (ok : Sound ran
   abbrev at-rest : ℕ → Option Order
   at-rest k = or-else (found arrival-of k (s .own)) (found arrival-of k (s .opp))
 
-  not-own : (k : ℕ) (o : Order) → found arrival-of k (s .opp) ≡ Some o → found arrival-of k (s .own) ≡ None
-  not-own k o e =
-      by-option (found arrival-of k (s .own)) (λ r. found arrival-of k (s .own) ≡ r → r ≡ None)
-      (λ _ _. refl) (λ x _ g. absurd (ok .apart k x o g e)) refl
+  pub not-own : (k : ℕ) (o : Order) → found arrival-of k (s .opp) ≡ Some o → found arrival-of k (s .own) ≡ None
+  not-own k o e = never-some (found arrival-of k (s .own)) (λ x g. ok .apart k x o g e)
 
   pub opp-at-rest : (k : ℕ) (o : Order) → found arrival-of k (s .opp) ≡ Some o → at-rest k ≡ Some o
   opp-at-rest k o e = ap (λ r. or-else r (found arrival-of k (s .opp))) (not-own k o e) ∙ e

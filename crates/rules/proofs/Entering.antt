@@ -34,7 +34,7 @@ use Rattle.rules.proofs.Finding.{found, found-tag, all-found, absent, found-pu
 use Rattle.rules.proofs.Conditions.{arrival-of, Order-kept, Side-kept, Apart, Sound, Agrees, living}
 use Rattle.rules.proofs.Sweeping.{Leaves-off, untraded, weight-at-most, whole-sweep}
 use Rattle.rules.proofs.Volumes.{volume-is}
-use Rattle.rules.proofs.Markets.{found-in, Kept, Matches, found-made, kept-made, quotes-made, arrivals-made, side-put, side-later, stand-sound, stand-agrees}
+use Rattle.rules.proofs.Markets.{or-none, found-in, Kept, Matches, found-made, kept-made, quotes-made, arrivals-made, side-put, side-later, stand-sound, stand-agrees}
 
 rows-accepted : (rows : List Row) (a : Account) → reckon-rows rows a .accepted ≡ a .accepted
 rows-accepted [] a = refl
@@ -200,10 +200,6 @@ module _ (ranking : Ranking) (law : Ranks ranking) (m : Market) (a : Account) (k
         ∙ sym (found-made own-then (end .opp) (end .quotes) (left .arrival) still-apart (left .side) n
         ∙ ap (λ r. or-else r (found arrival-of n (end .opp))) (found-own n ∙ cond-false _ _ _ (ne-eqb (left .arrival) n d))))
   ]
-    where
-      or-none : (x : Option Order) → or-else x None ≡ x
-      or-none None = refl
-      or-none (Some o) = refl
 
   pub entered-matches : Matches account-then market-then
   entered-matches =

@@ -58,6 +58,10 @@ found-in-tag n m o e =
     (λ _ _ g. found-tag arrival-of n (m .offers) o g) (λ x _ w g. found-tag arrival-of n (m .bids) o (w ∙ g)) refl e
 
 -- Both sides of a market, from the one that a call looks at.
+pub or-none : (x : Option Order) → or-else x None ≡ x
+or-none None = refl
+or-none (Some o) = refl
+
 or-else-swap : (x y : Option Order) → ((a b : Order) → x ≡ Some a → y ≡ Some b → ⊥) → or-else x y ≡ or-else y x
 or-else-swap None None h = refl
 or-else-swap None (Some b) h = refl

@@ -36,7 +36,7 @@ use Rattle.rules.specs.Sweeps.{less, standing, measured-sweep}
 use Rattle.rules.specs.Calls.{Market, market, fresh, Terms, terms, of-side, with-side, Outcome, outcome, accepted, decided, new-order, arriving, enter-refusal, entered, settled, enter, at-rest, open-of, cancel-refusal, cut-refusal, leaves, cut-down, taken-off, moved, cancelled, cut-stayed, cut-to, cancel, cut, post-accepted, post, apply, lit}
 use Rattle.rules.specs.Tape.{Account, empty-account, remainder-of, remainder, changed, change, added, reckon-rows, cut-by, reckon-call, reckon}
 use Rattle.rules.specs.Judge.{First-case, Cases, Outside, Too-small, Leaves, resting-on, refusal-of, Sized, Fair-entry, Fair-cut, Fair-call, Judged}
-use Rattle.rules.specs.Law.{entry, after, tape, Fair-tape, Tape-law, Goes-on, Tape-goes-on}
+use Rattle.rules.specs.Law.{entry, after, tape, Fair-tape, Tape-law, Goes-on, Tape-goes-on, Upholds}
 use Rattle.rules.proofs.Branches.{by-test, by-option, some-is, none-some}
 use Rattle.rules.proofs.Finding.{found, nth-found}
 use Rattle.rules.proofs.Quotations.{with-quote-lawful}
@@ -295,3 +295,9 @@ tape-goes-on t m (d ∷ cs) c room =
     let o = apply t m (d .0) (d .1) in
     let rest = tape-goes-on t (o .market) cs c room in
     record { tape-is = ap (λ es. entry (d .0) (d .1) o ∷ es) (rest .tape-is); after-is = rest .after-is }
+
+-- the law at one call, for the contract of whatever makes it
+pub upholds : (ranking : Ranking) → Ranks ranking → (m : Market) (c : Call) (room : ℕ) → Upholds ranking m c room (apply (terms ranking) m c room)
+upholds ranking law m c room b l cs e =
+    subst (λ x. Fair-tape ranking (empty-account b) (tape (terms ranking) (fresh b) cs ++ entry c room (apply (terms ranking) x c room) ∷ [])) e
+    (subst (Fair-tape ranking (empty-account b)) (tape-goes-on (terms ranking) (fresh b) cs c room .tape-is) (tape-law ranking law b l (cs ++ (c, room) ∷ [])))
