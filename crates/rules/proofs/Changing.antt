@@ -1,13 +1,12 @@
 -- A cancel takes one order off and a cut may move it; a post sets one quotation: what each keeps, and what the account has then.
 -- Rests on the lemmas on markets and on lists by tag.
 use mathlib.Core.Path.{_≡_, refl, sym, ap, subst, _∙_}
-use mathlib.Core.Bool.{Bool, true, false, cond, _&&_, _||_, not}
-use mathlib.Core.List.{List, [], _∷_}
-use mathlib.Core.Logic.{_⊎_, inl, inr}
-use Prim.Native.Nat.{ℕ, zero, suc, _+_, _-_, _≤_, _<_}
+use mathlib.Core.Bool.{true, false, cond}
+use mathlib.Core.List.{List}
+use mathlib.Core.Logic.{inl, inr}
+use Prim.Native.Nat.{ℕ, _-_, _<_}
 use native.Mathlib.Omega.{arith}
-use lib.Dec.{eqb, ltb, leb}
-use lib.ListN.{length}
+use lib.Dec.{eqb}
 use Rattle.std.specs.Holes.{removed}
 use Rattle.std.specs.shelf.Lists.{All}
 use Rattle.std.specs.declared.option.Option.{Option}
@@ -25,7 +24,7 @@ use Rattle.rules.specs.Rankings.{Ranking, Ranks, before}
 use Rattle.rules.specs.Calls.{Market, of-side, with-side, by-sides, or-else, put-on, leaves, cut-down}
 use Rattle.rules.specs.Tape.{Account, changed, change}
 use Rattle.rules.proofs.Branches.{by-test, none-some, never-some}
-use Rattle.rules.proofs.Finding.{found, found-tag, all-nth, none-tagged, nth-found, found-edited, length-removed, found-put-in}
+use Rattle.rules.proofs.Finding.{found, all-nth, none-tagged, found-edited, length-removed, found-put-in}
 use Rattle.rules.proofs.Conditions.{arrival-of, Order-kept, Side-kept, Apart, living}
 use Rattle.rules.proofs.Markets.{or-none, found-in, Kept, Matches, sides-apart, found-by-sides, found-made, kept-made, quotes-made, arrivals-made, with-side-made, side-put}
 

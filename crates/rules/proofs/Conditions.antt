@@ -2,11 +2,10 @@
 -- Rests on the lemmas on quotations and on lists by tag.
 use mathlib.Core.Path.{_≡_, refl, sym, ap, subst, _∙_}
 use mathlib.Core.Bool.{Bool, true, false, cond, _&&_, _||_, not}
-use mathlib.Core.List.{List, [], _∷_}
-use mathlib.Core.Logic.{_⊎_, inl, inr}
-use Prim.Native.Nat.{ℕ, suc, _+_, _≤_, _<_}
+use mathlib.Core.List.{List}
+use Prim.Native.Nat.{ℕ, _≤_, _<_}
 use native.Mathlib.Omega.{arith}
-use lib.Dec.{eqb, ltb, leb}
+use lib.Dec.{eqb}
 use lib.ListN.{length}
 use Rattle.std.specs.declared.option.Option.{Option}
 use Rattle.std.specs.declared.option.Option.the-variants.{Some, None}
@@ -17,13 +16,13 @@ use Rattle.std.proofs.shelf.Tests.{and-parts, and-from, leb-true, le-leb, true�
 use Rattle.std.proofs.shelf.Elements.{all-weaker}
 use Rattle.market.specs.declared.types.Side.{Side}
 use Rattle.market.specs.declared.types.Side.the-variants.{Buy, Sell}
-use Rattle.market.specs.Words.{opposite, better}
+use Rattle.market.specs.Words.{opposite}
 use Rattle.shelf.specs.Order.{Sorted, Distinct}
-use Rattle.board.specs.Quotes.{Quotes, Lawful, best-in}
+use Rattle.board.specs.Quotes.{Lawful, best-in}
 use Rattle.rules.specs.declared.types.Order.{Order}
-use Rattle.rules.specs.Orders.{mtv-of, displayed, program, type2, meets}
+use Rattle.rules.specs.Orders.{mtv-of, displayed, program, type2}
 use Rattle.rules.specs.Rankings.{Ranking, before}
-use Rattle.rules.specs.Trading.{Stand, Bests, bests, no-better, worse-than, all-worse, first-four, passes, may-trade}
+use Rattle.rules.specs.Trading.{Stand, bests, no-better, worse-than, all-worse, first-four, passes, may-trade}
 use Rattle.rules.specs.Calls.{or-else}
 use Rattle.rules.specs.Tape.{Account}
 use Rattle.rules.specs.Judge.{Better, None-better, Rests, First-four, Displayed-worse, May-trade, Sized}
