@@ -20,3 +20,7 @@ by-test false P t f = f refl
 pub by-option : {X : Type 0} (o : Option X) (P : Option X → Type 0) → (o ≡ None → P None) → ((x : X) → o ≡ Some x → P (Some x)) → P o
 by-option None P n s = n refl
 by-option (Some x) P n s = s x refl
+
+pub never-some : {X : Type 0} (o : Option X) → ((x : X) → o ≡ Some x → ⊥) → o ≡ None
+never-some None k = refl
+never-some (Some x) k = absurd (k x refl)

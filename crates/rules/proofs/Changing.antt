@@ -1,13 +1,12 @@
 -- A cancel takes one order off and a cut may move it; a post sets one quotation: what each keeps, and what the account has then.
 -- Rests on the lemmas on markets and on lists by tag.
 use mathlib.Core.Path.{_≡_, refl, sym, ap, subst, _∙_}
-use mathlib.Core.Bool.{Bool, true, false, cond, _&&_, _||_, not}
-use mathlib.Core.List.{List, [], _∷_}
-use mathlib.Core.Logic.{_⊎_, inl, inr}
-use Prim.Native.Nat.{ℕ, zero, suc, _+_, _-_, _≤_, _<_}
+use mathlib.Core.Bool.{true, false, cond}
+use mathlib.Core.List.{List}
+use mathlib.Core.Logic.{inl, inr}
+use Prim.Native.Nat.{ℕ, _-_, _<_}
 use native.Mathlib.Omega.{arith}
-use lib.Dec.{eqb, ltb, leb}
-use lib.ListN.{length}
+use lib.Dec.{eqb}
 use Rattle.std.specs.Holes.{removed}
 use Rattle.std.specs.shelf.Lists.{All}
 use Rattle.std.specs.declared.option.Option.{Option}
@@ -24,10 +23,10 @@ use Rattle.rules.specs.Orders.{too-small}
 use Rattle.rules.specs.Rankings.{Ranking, Ranks, before}
 use Rattle.rules.specs.Calls.{Market, of-side, with-side, by-sides, or-else, put-on, leaves, cut-down}
 use Rattle.rules.specs.Tape.{Account, changed, change}
-use Rattle.rules.proofs.Branches.{by-test, by-option, none-some}
-use Rattle.rules.proofs.Finding.{found, found-tag, all-nth, none-tagged, nth-found, found-edited, length-removed, found-put-in}
+use Rattle.rules.proofs.Branches.{by-test, none-some, never-some}
+use Rattle.rules.proofs.Finding.{found, all-nth, none-tagged, found-edited, length-removed, found-put-in}
 use Rattle.rules.proofs.Conditions.{arrival-of, Order-kept, Side-kept, Apart, living}
-use Rattle.rules.proofs.Markets.{found-in, Kept, Matches, sides-apart, found-by-sides, found-made, kept-made, quotes-made, arrivals-made, with-side-made, side-put}
+use Rattle.rules.proofs.Markets.{or-none, found-in, Kept, Matches, sides-apart, found-by-sides, found-made, kept-made, quotes-made, arrivals-made, with-side-made, side-put}
 
 -- One number of one side changed: r is what is found under it then.
 module _ (ranking : Ranking) (m : Market) (a : Account) (k : Kept ranking m) (h : Matches a m) (s : Side) (o : Order) (os : List Order) (r : Option Order)
@@ -40,7 +39,7 @@ module _ (ranking : Ranking) (m : Market) (a : Account) (k : Kept ranking m) (h 
   elsewhere n d = found-then n ∙ cond-false _ _ _ (ne-eqb (o .arrival) n d)
 
   not-opp : found arrival-of (o .arrival) opp ≡ None
-  not-opp = by-option (found arrival-of (o .arrival) opp) (λ x. found arrival-of (o .arrival) opp ≡ x → x ≡ None) (λ _ _. refl) (λ y _ g. absurd (sides-apart m (k .apart) s (o .arrival) o y there g)) refl
+  not-opp = never-some (found arrival-of (o .arrival) opp) (λ y g. sides-apart m (k .apart) s (o .arrival) o y there g)
 
   still-apart : Apart os opp
   still-apart n x y e f = elim (cases-eq (o .arrival) n) [
@@ -50,10 +49,6 @@ module _ (ranking : Ranking) (m : Market) (a : Account) (k : Kept ranking m) (h 
 
   pub changed-kept : Kept ranking (with-side s os m)
   changed-kept = subst (Kept ranking) (sym (with-side-made s os m)) (kept-made os opp (m .quotes) (m .arrivals) still-apart ranking s side (k .sides (opposite s)) (k .quotes))
-
-  or-none : (x : Option Order) → or-else x None ≡ x
-  or-none None = refl
-  or-none (Some y) = refl
 
   pub changed-matches : (f : Order → Order) → living (changed f (a .known (o .arrival))) ≡ r → Matches (change (o .arrival) f a) (with-side s os m)
   changed-matches f e = subst (Matches (change (o .arrival) f a)) (sym (with-side-made s os m)) (record {

@@ -2,11 +2,10 @@
 -- Rests on the lemmas on quotations and on lists by tag.
 use mathlib.Core.Path.{_≡_, refl, sym, ap, subst, _∙_}
 use mathlib.Core.Bool.{Bool, true, false, cond, _&&_, _||_, not}
-use mathlib.Core.List.{List, [], _∷_}
-use mathlib.Core.Logic.{_⊎_, inl, inr}
-use Prim.Native.Nat.{ℕ, suc, _+_, _≤_, _<_}
+use mathlib.Core.List.{List}
+use Prim.Native.Nat.{ℕ, _≤_, _<_}
 use native.Mathlib.Omega.{arith}
-use lib.Dec.{eqb, ltb, leb}
+use lib.Dec.{eqb}
 use lib.ListN.{length}
 use Rattle.std.specs.declared.option.Option.{Option}
 use Rattle.std.specs.declared.option.Option.the-variants.{Some, None}
@@ -17,17 +16,17 @@ use Rattle.std.proofs.shelf.Tests.{and-parts, and-from, leb-true, le-leb, true�
 use Rattle.std.proofs.shelf.Elements.{all-weaker}
 use Rattle.market.specs.declared.types.Side.{Side}
 use Rattle.market.specs.declared.types.Side.the-variants.{Buy, Sell}
-use Rattle.market.specs.Words.{opposite, better}
+use Rattle.market.specs.Words.{opposite}
 use Rattle.shelf.specs.Order.{Sorted, Distinct}
-use Rattle.board.specs.Quotes.{Quotes, Lawful, best-in}
+use Rattle.board.specs.Quotes.{Lawful, best-in}
 use Rattle.rules.specs.declared.types.Order.{Order}
-use Rattle.rules.specs.Orders.{mtv-of, displayed, program, type2, meets}
+use Rattle.rules.specs.Orders.{mtv-of, displayed, program, type2}
 use Rattle.rules.specs.Rankings.{Ranking, before}
-use Rattle.rules.specs.Trading.{Stand, Bests, bests, no-better, worse-than, all-worse, first-four, passes, may-trade}
+use Rattle.rules.specs.Trading.{Stand, bests, no-better, worse-than, all-worse, first-four, passes, may-trade}
 use Rattle.rules.specs.Calls.{or-else}
 use Rattle.rules.specs.Tape.{Account}
 use Rattle.rules.specs.Judge.{Better, None-better, Rests, First-four, Displayed-worse, May-trade, Sized}
-use Rattle.rules.proofs.Branches.{by-option, some-is, none-some}
+use Rattle.rules.proofs.Branches.{by-option, none-some, never-some}
 use Rattle.rules.proofs.Finding.{found, found-tag, all-found, all-from-found}
 use Rattle.rules.proofs.Quotations.{decides-better, decides-not-better, decides-none-better}
 
@@ -96,10 +95,8 @@ module _ (ranking : Ranking) (n : ℕ) (s : Stand) (a : Account) (ok : Sound ran
   abbrev at-rest : ℕ → Option Order
   at-rest k = or-else (found arrival-of k (s .own)) (found arrival-of k (s .opp))
 
-  not-own : (k : ℕ) (o : Order) → found arrival-of k (s .opp) ≡ Some o → found arrival-of k (s .own) ≡ None
-  not-own k o e =
-      by-option (found arrival-of k (s .own)) (λ r. found arrival-of k (s .own) ≡ r → r ≡ None)
-      (λ _ _. refl) (λ x _ g. absurd (ok .apart k x o g e)) refl
+  pub not-own : (k : ℕ) (o : Order) → found arrival-of k (s .opp) ≡ Some o → found arrival-of k (s .own) ≡ None
+  not-own k o e = never-some (found arrival-of k (s .own)) (λ x g. ok .apart k x o g e)
 
   pub opp-at-rest : (k : ℕ) (o : Order) → found arrival-of k (s .opp) ≡ Some o → at-rest k ≡ Some o
   opp-at-rest k o e = ap (λ r. or-else r (found arrival-of k (s .opp))) (not-own k o e) ∙ e

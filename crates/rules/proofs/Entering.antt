@@ -1,15 +1,14 @@
 -- An entry that is accepted: its answer and rows pass the judge, and the market after it is kept and matched.
 -- Rests on the lemmas on sweeps, volumes and markets.
 use mathlib.Core.Path.{_≡_, refl, sym, ap, ap₂, subst, _∙_}
-use mathlib.Core.Bool.{Bool, true, false, cond, _&&_, _||_, not}
+use mathlib.Core.Bool.{true, false, cond, _&&_, not}
 use mathlib.Core.List.{List, [], _∷_}
-use mathlib.Core.Logic.{_⊎_, inl, inr}
-use Prim.Native.Nat.{ℕ, zero, suc, _+_, _-_, _≤_, _<_}
+use mathlib.Core.Logic.{inl, inr}
+use Prim.Native.Nat.{ℕ, _+_, _-_, _≤_, _<_}
 use native.Mathlib.Omega.{arith}
-use lib.Dec.{eqb, ltb, leb}
+use lib.Dec.{eqb, leb}
 use lib.ListN.{length}
 use Rattle.std.specs.shelf.Lists.{All}
-use Rattle.std.specs.declared.option.Option.{Option}
 use Rattle.std.specs.declared.option.Option.the-variants.{Some, None}
 use Rattle.std.proofs.shelf.Ways.{tells}
 use Rattle.std.proofs.shelf.Tests.{cases-bool, cases-eq, cond-both, cond-true, cond-false, eq-eqb, ne-eqb, eqb-true, leb-true, leb-false}
@@ -17,24 +16,22 @@ use Rattle.std.proofs.shelf.Elements.{all-weaker}
 use Rattle.market.specs.declared.types.Side.{Side}
 use Rattle.market.specs.Words.{opposite}
 use Rattle.shelf.specs.Standing.{put-in}
-use Rattle.board.specs.Quotes.{Quotes}
 use Rattle.rules.specs.declared.types.Order.{Order}
 use Rattle.rules.specs.declared.types.Row.{Row}
 use Rattle.rules.specs.declared.types.Row.the-variants.{Fill, Route}
-use Rattle.rules.specs.declared.types.Accepted.{Accepted}
 use Rattle.rules.specs.Orders.{mtv-of, cancels, too-small}
 use Rattle.rules.specs.Rankings.{Ranking, Ranks, before}
 use Rattle.rules.specs.Trading.{Stand, volume}
 use Rattle.rules.specs.Sweeps.{Swept, with-open, less, standing, swept, sweep, measured-sweep}
-use Rattle.rules.specs.Calls.{Market, terms, of-side, by-sides, or-else, rests, own-after, entered, settled}
+use Rattle.rules.specs.Calls.{Market, terms, of-side, or-else, rests, own-after, entered, settled}
 use Rattle.rules.specs.Tape.{Account, remainder-of, remainder, changed, change, added, reckon-row, reckon-rows}
 use Rattle.rules.specs.Judge.{Sized, Measured, Fair-entry}
 use Rattle.rules.proofs.Branches.{by-test}
 use Rattle.rules.proofs.Finding.{found, found-tag, all-found, absent, found-put-in}
-use Rattle.rules.proofs.Conditions.{arrival-of, Order-kept, Side-kept, Apart, Sound, Agrees, living}
+use Rattle.rules.proofs.Conditions.{arrival-of, Order-kept, Side-kept, Apart, living}
 use Rattle.rules.proofs.Sweeping.{Leaves-off, untraded, weight-at-most, whole-sweep}
 use Rattle.rules.proofs.Volumes.{volume-is}
-use Rattle.rules.proofs.Markets.{found-in, Kept, Matches, found-made, kept-made, quotes-made, arrivals-made, side-put, side-later, stand-sound, stand-agrees}
+use Rattle.rules.proofs.Markets.{or-none, found-in, Kept, Matches, found-made, kept-made, quotes-made, arrivals-made, side-put, side-later, stand-sound, stand-agrees}
 
 rows-accepted : (rows : List Row) (a : Account) → reckon-rows rows a .accepted ≡ a .accepted
 rows-accepted [] a = refl
@@ -200,10 +197,6 @@ module _ (ranking : Ranking) (law : Ranks ranking) (m : Market) (a : Account) (k
         ∙ sym (found-made own-then (end .opp) (end .quotes) (left .arrival) still-apart (left .side) n
         ∙ ap (λ r. or-else r (found arrival-of n (end .opp))) (found-own n ∙ cond-false _ _ _ (ne-eqb (left .arrival) n d))))
   ]
-    where
-      or-none : (x : Option Order) → or-else x None ≡ x
-      or-none None = refl
-      or-none (Some o) = refl
 
   pub entered-matches : Matches account-then market-then
   entered-matches =

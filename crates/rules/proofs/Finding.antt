@@ -3,8 +3,8 @@
 use mathlib.Core.Path.{_≡_, refl, sym, ap, subst, _∙_}
 use mathlib.Core.Bool.{Bool, true, false, cond}
 use mathlib.Core.List.{List, [], _∷_}
-use mathlib.Core.Logic.{_⊎_, inl, inr}
-use Prim.Native.Nat.{ℕ, zero, suc, _+_, _≤_, _<_}
+use mathlib.Core.Logic.{inl, inr}
+use Prim.Native.Nat.{ℕ, zero, suc, _+_, _≤_}
 use native.Mathlib.Omega.{arith}
 use lib.Dec.{eqb}
 use lib.ListN.{length, set}
@@ -19,7 +19,7 @@ use Rattle.shelf.specs.declared.types.Placed.{Placed}
 use Rattle.shelf.specs.Order.{Total, Pairwise, Sorted, Distinct}
 use Rattle.shelf.specs.Standing.{first, put-in, nth}
 use Rattle.shelf.proofs.Sorting.{all-put-in}
-use Rattle.rules.proofs.Branches.{by-option, some-is, none-some}
+use Rattle.rules.proofs.Branches.{some-is, none-some}
 
 module _ {X : Type 0} where
   -- Searches by a test, with the place: the first that passes.

@@ -15,3 +15,4 @@ mod Lights
 pub mod Tapes
 mod Objecting
 mod Shares
+mod Deciding

@@ -1,25 +1,23 @@
 -- What a market keeps between calls, when an account is of it, and what follows for the order that comes in next.
 -- Rests on the lemmas on conditions, lists by tag and sums over numbers.
 use mathlib.Core.Path.{_≡_, refl, sym, ap, subst, _∙_}
-use mathlib.Core.Bool.{Bool, true, false, cond, _&&_}
-use mathlib.Core.List.{List, [], _∷_}
-use mathlib.Core.Logic.{_⊎_, inl, inr}
-use Prim.Native.Nat.{ℕ, zero, suc, _+_, _≤_, _<_}
+use mathlib.Core.Bool.{false, cond, _&&_}
+use mathlib.Core.List.{List}
+use Prim.Native.Nat.{ℕ, _+_, _≤_, _<_}
 use native.Mathlib.Omega.{arith}
 use lib.Dec.{eqb, ltb}
-use lib.ListN.{length, set}
-use Rattle.std.specs.Holes.{removed}
+use lib.ListN.{length}
 use Rattle.std.specs.shelf.Lists.{All}
 use Rattle.std.specs.declared.option.Option.{Option}
 use Rattle.std.specs.declared.option.Option.the-variants.{Some, None}
 use Rattle.std.proofs.shelf.Ways.{tells}
-use Rattle.std.proofs.shelf.Tests.{cases-eq, cond-true, cond-false, eq-eqb, ne-eqb, eqb-true}
+use Rattle.std.proofs.shelf.Tests.{cond-true, cond-false, eq-eqb, ne-eqb, eqb-true}
 use Rattle.std.proofs.shelf.Elements.{all-weaker}
 use Rattle.market.specs.declared.types.Side.{Side}
 use Rattle.market.specs.declared.types.Side.the-variants.{Buy, Sell}
 use Rattle.market.specs.Words.{opposite, same-side}
 use Rattle.shelf.specs.declared.types.Placed.{Placed}
-use Rattle.shelf.specs.Standing.{first, nth, put-in}
+use Rattle.shelf.specs.Standing.{nth, put-in}
 use Rattle.shelf.proofs.Sorting.{all-put-in, length-put-in, put-sorted}
 use Rattle.board.specs.Quotes.{Quotes, Lawful}
 use Rattle.rules.specs.declared.types.Order.{Order}
@@ -35,7 +33,7 @@ use Rattle.rules.proofs.Branches.{by-test, by-option, some-is, none-some}
 use Rattle.rules.proofs.Finding.{first-nth, item-of, found, found-first, found-tag, all-found, put-in-distinct}
 use Rattle.rules.proofs.Counting.{count-same, count-found}
 use Rattle.rules.proofs.Quotations.{same-side-itself}
-use Rattle.rules.proofs.Conditions.{arrival-of, Order-kept, Side-kept, Apart, Sound, Agrees, living, living-is}
+use Rattle.rules.proofs.Conditions.{arrival-of, Order-kept, Side-kept, Apart, Sound, Agrees, living}
 
 -- the order found under a number, on either side
 abbrev pub found-in : ℕ → Market → Option Order
@@ -58,6 +56,10 @@ found-in-tag n m o e =
     (λ _ _ g. found-tag arrival-of n (m .offers) o g) (λ x _ w g. found-tag arrival-of n (m .bids) o (w ∙ g)) refl e
 
 -- Both sides of a market, from the one that a call looks at.
+pub or-none : (x : Option Order) → or-else x None ≡ x
+or-none None = refl
+or-none (Some o) = refl
+
 or-else-swap : (x y : Option Order) → ((a b : Order) → x ≡ Some a → y ≡ Some b → ⊥) → or-else x y ≡ or-else y x
 or-else-swap None None h = refl
 or-else-swap None (Some b) h = refl

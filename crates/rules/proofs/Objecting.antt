@@ -14,18 +14,17 @@ use Rattle.market.specs.declared.types.Side.the-variants.{Buy, Sell}
 use Rattle.market.specs.declared.types.Refusal.{Refusal}
 use Rattle.market.specs.declared.types.Refusal.the-variants.{Price}
 use Rattle.market.specs.Words.{opposite}
-use Rattle.rules.specs.declared.types.Kind.{Kind}
-use Rattle.rules.specs.declared.types.Kind.the-variants.{Displayed, Olo, Ilo}
+use Rattle.rules.specs.declared.types.Kind.the-variants.{Displayed, Olo}
 use Rattle.rules.specs.declared.types.Order.{Order}
 use Rattle.rules.specs.declared.types.Row.{Row}
-use Rattle.rules.specs.declared.types.Row.the-variants.{Fill, Route}
+use Rattle.rules.specs.declared.types.Row.the-variants.{Fill}
 use Rattle.rules.specs.declared.types.Accepted.{Accepted}
 use Rattle.rules.specs.Orders.{mtv-of, program, meets}
-use Rattle.rules.specs.Rankings.{Ranking, size-time}
+use Rattle.rules.specs.Rankings.{size-time}
 use Rattle.rules.specs.Calls.{new-order}
 use Rattle.rules.specs.Sweeps.{less}
 use Rattle.rules.specs.Tape.{Account, empty-account, changed, added, reckon}
-use Rattle.rules.specs.Judge.{Not-better, None-better, Rests, First-four, May-trade, In-turn, Fair-fill, Ended, Fair-entry, Judged}
+use Rattle.rules.specs.Judge.{Not-better, None-better, Rests, May-trade, In-turn, Fair-fill, Ended, Fair-entry}
 use Rattle.rules.specs.Objections.{unquoted, bid, second-bid, below-bid, above-offer, unrouted, at-displayed, out-of-turn, other-price, fewer-shares, of-cancelled, of-nobody, ended-early, refused-outside, accepted-inside, shown-wrongly, unlit-wrongly, lit-wrongly, cut-too-small, Objects, Objections}
 use Rattle.rules.proofs.Branches.{some-is, none-some}
 

@@ -1,31 +1,29 @@
 -- The tests on quotations say what the judge says of them, and a take or a post leaves them lawful.
 -- Rests on what the best of the markets says of each.
 use mathlib.Core.Path.{_≡_, refl, sym, ap, subst, _∙_}
-use mathlib.Core.Bool.{Bool, true, false, cond, _&&_, _||_, not}
-use mathlib.Core.Logic.{_⊎_, inl, inr}
-use Prim.Native.Nat.{ℕ, zero, suc, _+_, _-_, _≤_, _<_}
+use mathlib.Core.Bool.{true, false, cond, _&&_, not}
+use mathlib.Core.Logic.{inl, inr}
+use Prim.Native.Nat.{ℕ, suc, _≤_}
 use native.Mathlib.Omega.{arith}
 use lib.Dec.{eqb, ltb, leb}
 use Rattle.std.specs.declared.option.Option.{Option}
 use Rattle.std.specs.declared.option.Option.the-variants.{Some, None}
-use Rattle.std.specs.declared.result.Result.{Result}
 use Rattle.std.specs.declared.result.Result.the-variants.{Ok, Err}
 use Rattle.std.specs.Orderings.{Decides}
 use Rattle.std.proofs.shelf.Ways.{tells, decides-ltb}
 use Rattle.std.proofs.shelf.Tests.{cases-bool, cond-both, cond-true, cond-false, and-from, and-parts, and-right, eq-eqb, ne-eqb, eqb-true, both-ways}
 use Rattle.market.specs.declared.types.Side.{Side}
 use Rattle.market.specs.declared.types.Side.the-variants.{Buy, Sell}
-use Rattle.market.specs.declared.types.Refusal.{Refusal}
-use Rattle.market.specs.declared.types.Refusal.the-variants.{MarketNumber, Quotation, Take}
-use Rattle.market.specs.Words.{same-side, better, in-range}
+use Rattle.market.specs.declared.types.Refusal.the-variants.{MarketNumber, Take}
+use Rattle.market.specs.Words.{same-side, better}
 use Rattle.board.specs.declared.types.Quote.{Quote}
 use Rattle.board.specs.declared.types.Best.{Best}
-use Rattle.board.specs.Quotes.{Quotes, Lawful, market-ok, quote-ok, with-quote, lowered, shares-of, take-answer, post-answer, posted, if-ok, best-upto, best-in}
+use Rattle.board.specs.Quotes.{Quotes, Lawful, market-ok, quote-ok, with-quote, lowered, shares-of, if-ok, best-in}
 use Rattle.board.proofs.Bests.{IsBest, best-none, best-some}
 use Rattle.rules.specs.Trading.{no-better}
 use Rattle.rules.specs.Sweeps.{taken}
 use Rattle.rules.specs.Judge.{Better, Not-better, None-better, count-upto}
-use Rattle.rules.proofs.Branches.{by-test, by-option, some-is, none-some}
+use Rattle.rules.proofs.Branches.{by-test, by-option, none-some}
 use Rattle.rules.proofs.Counting.{count-differs, count-at-most}
 
 pub decides-better : (s : Side) (a b : ℕ) → Decides (better s a b) (Better s a b)

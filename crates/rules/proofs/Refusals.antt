@@ -4,16 +4,15 @@ use mathlib.Core.Path.{_≡_, refl, sym, ap, subst, _∙_}
 use mathlib.Core.Bool.{Bool, true, false, cond, _&&_, _||_, not}
 use mathlib.Core.List.{List, [], _∷_}
 use mathlib.Core.Logic.{_⊎_, inl, inr}
-use Prim.Native.Nat.{ℕ, _+_, _*_, _≤_, _<_}
+use Prim.Native.Nat.{ℕ, _*_, _≤_, _<_}
 use native.Mathlib.Omega.{arith}
 use lib.Dec.{eqb, ltb, leb}
 use lib.ListN.{length}
 use Rattle.std.specs.Orderings.{Decides}
 use Rattle.std.specs.declared.option.Option.{Option}
 use Rattle.std.specs.declared.option.Option.the-variants.{Some, None}
-use Rattle.std.specs.declared.result.Result.{Result}
 use Rattle.std.specs.declared.result.Result.the-variants.{Ok, Err}
-use Rattle.std.proofs.shelf.Ways.{tells, decides-and, decides-or, decides-not, decides-ltb, decides-eqb, decides-like}
+use Rattle.std.proofs.shelf.Ways.{tells, decides-and, decides-or, decides-ltb, decides-eqb}
 use Rattle.std.proofs.shelf.Tests.{leb-true, le-leb, cond-both, both-ways}
 use Rattle.market.specs.declared.types.Side.{Side}
 use Rattle.market.specs.declared.types.Refusal.{Refusal}
@@ -24,13 +23,12 @@ use Rattle.rules.specs.declared.types.Kind.{Kind}
 use Rattle.rules.specs.declared.types.Kind.the-variants.{Displayed, Dark, Olo, Ilo}
 use Rattle.rules.specs.declared.types.Order.{Order}
 use Rattle.rules.specs.declared.types.Located.{Located}
-use Rattle.rules.specs.declared.types.Call.{Call}
 use Rattle.rules.specs.declared.types.Call.the-variants as call
 use Rattle.rules.specs.Orders.{mtv-of, is-olo, is-ilo, cancels, too-small}
 use Rattle.rules.specs.Rankings.{Ranking}
 use Rattle.rules.specs.Calls.{Market, of-side, at-rest, open-of, is-none, first-case, arriving, enter-refusal, cut-refusal, cancel-refusal, post-accepted}
 use Rattle.rules.specs.Tape.{Account, remainder}
-use Rattle.rules.specs.Judge.{First-case, Cases, Outside, Too-small, Leaves, resting-on, refusal-of}
+use Rattle.rules.specs.Judge.{First-case, Cases, Outside, Too-small, Leaves, refusal-of}
 use Rattle.rules.specs.Calls.{leaves}
 use Rattle.rules.proofs.Branches.{by-test, by-option}
 use Rattle.rules.proofs.Markets.{Kept, Matches, resting-is, remainder-is, order-of, order-at-rest, kept-found}

@@ -1,22 +1,20 @@
 -- Shares are kept by whatever passes the judge, and so by every call; rows and sides stay within their bounds.
 -- Rests on the law of the tape.
 use mathlib.Core.Path.{_≡_, refl, sym, ap, subst, _∙_}
-use mathlib.Core.Bool.{Bool, true, false, cond}
+use mathlib.Core.Bool.{cond}
 use mathlib.Core.List.{List, [], _∷_}
-use mathlib.Core.Logic.{_⊎_, inl, inr}
-use Prim.Native.Nat.{ℕ, suc, _+_, _-_, _≤_, _<_, min}
+use mathlib.Core.Logic.{inl, inr}
+use Prim.Native.Nat.{ℕ, suc, _+_, _-_, _≤_}
 use native.Mathlib.Omega.{arith}
 use lib.Dec.{eqb}
 use lib.ListN.{length}
-use Rattle.std.specs.declared.option.Option.{Option}
-use Rattle.std.specs.declared.option.Option.the-variants.{Some, None}
+use Rattle.std.specs.declared.option.Option.the-variants.{Some}
 use Rattle.std.specs.declared.result.Result.{Result}
 use Rattle.std.specs.declared.result.Result.the-variants.{Ok, Err}
 use Rattle.std.proofs.shelf.Ways.{not-from-decides}
 use Rattle.std.proofs.shelf.Tests.{cases-bool, cases-eq, cases-lt, cond-true, cond-false, eq-eqb, ne-eqb}
 use Rattle.market.specs.declared.types.Side.{Side}
 use Rattle.market.specs.declared.types.Refusal.{Refusal}
-use Rattle.board.specs.Quotes.{Quotes, Lawful}
 use Rattle.rules.specs.declared.types.Order.{Order}
 use Rattle.rules.specs.declared.types.Row.{Row}
 use Rattle.rules.specs.declared.types.Row.the-variants.{Fill, Route}
@@ -28,10 +26,9 @@ use Rattle.rules.specs.Rankings.{Ranking, Ranks}
 use Rattle.rules.specs.Sweeps.{less}
 use Rattle.rules.specs.Calls.{Market, Outcome, terms, fresh, of-side, new-order, apply, open-shares, leaves}
 use Rattle.rules.specs.Tape.{Account, empty-account, remainder-of, remainder, changed, change, added, reckon-row, reckon-rows, cut-by, reckon-answer, reckon}
-use Rattle.rules.specs.Judge.{Fair-fill, Fair-route, Fair-sweep, Fair-entry, Fair-cut, Fair-call, Fair-answer, Leaves}
+use Rattle.rules.specs.Judge.{Fair-fill, Fair-sweep, Fair-entry, Fair-answer}
 use Rattle.rules.specs.Law.{after, entry}
 use Rattle.rules.specs.Keeping.{At-every-call, traded, filled-of, Shares-answered, Shares-kept, Named, Fills-kept, Rows-fit, Sides-fit}
-use Rattle.rules.proofs.Branches.{by-test}
 use Rattle.rules.proofs.Markets.{Kept, Matches, remainder-is}
 use Rattle.rules.proofs.Refusals.{decides-leaves}
 use Rattle.rules.proofs.Tapes.{Good, call-good, reached, fresh-kept, fresh-matches}

@@ -1,43 +1,39 @@
 -- One step of a sweep: its row is fair, what stands after it is sound, the account after its row agrees with that, and less
 -- is left to trade with. Rests on the lemmas on conditions, quotations and lists by tag.
 use mathlib.Core.Path.{_≡_, refl, sym, ap, subst, _∙_}
-use mathlib.Core.Bool.{Bool, true, false, cond, _&&_, _||_, not}
-use mathlib.Core.List.{List, [], _∷_}
+use mathlib.Core.Bool.{true, false, cond, _&&_, not}
+use mathlib.Core.List.{List}
 use mathlib.Core.Logic.{_⊎_, inl, inr}
-use Prim.Native.Nat.{ℕ, zero, suc, _+_, _-_, _≤_, _<_, min}
+use Prim.Native.Nat.{ℕ, _+_, _-_, _≤_, _<_, min}
 use native.Mathlib.Omega.{arith}
-use lib.Dec.{eqb, ltb, leb}
+use lib.Dec.{eqb, leb}
 use lib.ListN.{length, set}
 use Rattle.std.specs.Holes.{removed}
 use Rattle.std.specs.declared.option.Option.{Option}
 use Rattle.std.specs.declared.option.Option.the-variants.{Some, None}
-use Rattle.std.specs.shelf.Lists.{All}
 use Rattle.std.proofs.shelf.Ways.{tells}
-use Rattle.std.proofs.shelf.Tests.{cases-bool, cases-eq, cond-both, cond-true, cond-false, eq-eqb, ne-eqb, eqb-true, eqb-false, le-leb, both-ways, and-parts, and-from}
-use Rattle.std.proofs.shelf.Elements.{all-weaker}
+use Rattle.std.proofs.shelf.Tests.{cases-eq, cond-both, cond-true, cond-false, eq-eqb, ne-eqb, eqb-true, eqb-false, le-leb, both-ways, and-parts}
 use Rattle.market.specs.declared.types.Side.{Side}
 use Rattle.market.specs.declared.types.Side.the-variants.{Buy, Sell}
 use Rattle.market.specs.Words.{opposite, better}
 use Rattle.shelf.specs.declared.types.Placed.{Placed}
-use Rattle.shelf.specs.Order.{Distinct, Sorted}
 use Rattle.shelf.specs.Standing.{first, nth}
 use Rattle.board.specs.declared.types.Quote.{Quote}
 use Rattle.board.specs.declared.types.Best.{Best}
 use Rattle.board.specs.Quotes.{Quotes, best-in}
 use Rattle.rules.specs.declared.types.Order.{Order}
-use Rattle.rules.specs.declared.types.Row.{Row}
 use Rattle.rules.specs.Orders.{type2, too-small}
 use Rattle.rules.specs.Rankings.{Ranking, Ranks, before}
 use Rattle.rules.specs.Trading.{Stand, may-trade}
 use Rattle.rules.specs.Sweeps.{Step, with-open, less, taken, filled, routed-first, trade, fill, route, chosen, next}
 use Rattle.rules.specs.Calls.{or-else}
 use Rattle.rules.specs.Tape.{Account, changed, routed, reckon-row}
-use Rattle.rules.specs.Judge.{Not-better, None-better, Rests, May-trade, In-turn, Fair-row, Ended}
+use Rattle.rules.specs.Judge.{None-better, Rests, May-trade, In-turn, Fair-row, Ended}
 use Rattle.rules.proofs.Precedences.{orders-total}
-use Rattle.rules.proofs.Branches.{by-test, by-option, some-is, none-some}
-use Rattle.rules.proofs.Finding.{first-passes, first-none, first-nth, first-least, found, found-tag, all-found, all-nth, nth-found, edited, found-edited, all-edited, pairwise-edited, length-removed, length-edited}
+use Rattle.rules.proofs.Branches.{by-test, by-option, some-is, none-some, never-some}
+use Rattle.rules.proofs.Finding.{first-passes, first-none, first-nth, first-least, found, all-found, all-nth, nth-found, edited, found-edited, all-edited, pairwise-edited, length-removed, length-edited}
 use Rattle.rules.proofs.Quotations.{decides-better, best-is, best-unbeaten, best-lowest, none-quoted, quoted-shares, taken-lawful, quoted, quoted-taken}
-use Rattle.rules.proofs.Conditions.{arrival-of, Order-kept, Side-kept, Apart, Sound, Agrees, living, living-open, opp-at-rest, rests-from, rests-across, decides-may-trade}
+use Rattle.rules.proofs.Conditions.{arrival-of, Order-kept, Side-kept, Sound, Agrees, living, rests-across, not-own, decides-may-trade}
 
 -- the side that the incoming order trades with
 abbrev across : Stand → Side
@@ -74,14 +70,13 @@ weight-is : (s : Stand) → 0 < s .incoming .«open» → weight s ≡ length (s
 weight-is s h = cond-false _ _ _ (ne-eqb (s .incoming .«open») 0 (λ e. omega arith))
 
 pub weightless : (s : Stand) → weight s ≤ 0 → next s ≡ None
-weightless s h =
-    by-option (next s) (λ x. next s ≡ x → x ≡ None) (λ _ _. refl)
-    (λ t _ e.
+weightless s h = never-some (next s) (λ t e.
     let (c, w) = next-choice s t e in
-    let was = weight-is s (w .some-open) in
+    let some-open = w .some-open in
+    let was = weight-is s some-open in
     let (j, k) = first-nth (may-trade s) (s .opp) 0 c (w .first-is) in
     let some = length-removed (s .opp) j (c .item) (k .1) in
-    absurd (let x = w .some-open in omega arith)) refl
+    omega arith)
 
 -- What is left of an order after n shares are filled: the order but for its open shares, if it has some.
 abbrev left : ℕ → Order → Option Order
@@ -216,6 +211,7 @@ module _ (ranking : Ranking) (law : Ranks ranking) (n : ℕ) (s : Stand) (a : Ac
           entry = refl;
           known = ag .incoming;
           at-rest = rests .known;
+          numbered = refl;
           in-turn = in-turn;
           no-bid-above = clear Buy;
           no-offer-below = clear Sell;
@@ -278,7 +274,7 @@ module _ (ranking : Ranking) (law : Ranks ranking) (n : ℕ) (s : Stand) (a : Ac
         there = found-filled r ∙ cond-true _ _ _ (eq-eqb r r refl)
 
         own-none : found arrival-of r (s .own) ≡ None
-        own-none = by-option (found arrival-of r (s .own)) (λ x. found arrival-of r (s .own) ≡ x → x ≡ None) (λ _ _. refl) (λ x _ g. absurd (ok .apart r x o g here)) refl
+        own-none = not-own ranking n s a ok ag r o here
 
         lighter : weight (fill s c .stand) < weight s
         lighter =

@@ -1,26 +1,24 @@
 -- A whole sweep passes the judge, row by row and at its end; what it leaves is sound, and the account after its rows agrees with it.
 -- Rests on the lemmas on one step.
-use mathlib.Core.Path.{_≡_, refl, sym, ap, subst, _∙_}
+use mathlib.Core.Path.{_≡_, refl, ap, subst, _∙_}
 use mathlib.Core.Bool.{Bool, true, false, cond}
-use mathlib.Core.List.{List, [], _∷_}
-use mathlib.Core.Logic.{_⊎_, inl, inr}
-use Prim.Native.Nat.{ℕ, zero, suc, _+_, _-_, _≤_, _<_}
+use mathlib.Core.List.{[], _∷_}
+use Prim.Native.Nat.{ℕ, zero, suc, _+_, _≤_}
 use native.Mathlib.Omega.{arith}
 use lib.Dec.{eqb}
 use lib.ListN.{length}
-use Rattle.std.specs.declared.option.Option.{Option}
 use Rattle.std.specs.declared.option.Option.the-variants.{Some, None}
 use Rattle.market.specs.Words.{opposite}
 use Rattle.rules.specs.declared.types.Order.{Order}
 use Rattle.rules.specs.Rankings.{Ranking, Ranks}
 use Rattle.rules.specs.Trading.{Stand}
-use Rattle.rules.specs.Sweeps.{Step, Swept, with-open, swept, rows-before, next, sweep}
+use Rattle.rules.specs.Sweeps.{Swept, with-open, swept, rows-before, next, sweep}
 use Rattle.rules.specs.Tape.{Account, reckon-row, reckon-rows}
 use Rattle.rules.specs.Judge.{Fair-sweep}
 use Rattle.rules.proofs.Branches.{by-option}
 use Rattle.rules.proofs.Quotations.{quoted, quoted-at-most}
 use Rattle.rules.proofs.Conditions.{Sound, Agrees}
-use Rattle.rules.proofs.Steps.{weight, weightless, none-ended, Stepped, step}
+use Rattle.rules.proofs.Steps.{weight, weightless, none-ended, step}
 
 -- What a sweep leaves: the incoming order but for its open shares, which have not grown, and its own side as it was.
 pub record Leaves-off (ranking : Ranking) (n : ℕ) (s : Stand) (a : Account) (w : Swept) : Type 0 where

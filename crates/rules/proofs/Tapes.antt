@@ -4,9 +4,9 @@ use mathlib.Core.Path.{_≡_, refl, sym, ap, subst, _∙_}
 use mathlib.Core.Bool.{Bool, true, false, cond, _&&_, _||_, not}
 use mathlib.Core.List.{List, [], _∷_, _++_}
 use mathlib.Core.Logic.{_⊎_, inl, inr}
-use Prim.Native.Nat.{ℕ, zero, suc, _+_, _-_, _≤_, _<_}
+use Prim.Native.Nat.{ℕ, suc, _+_, _-_, _≤_, _<_}
 use native.Mathlib.Omega.{arith}
-use lib.Dec.{eqb, ltb, leb}
+use lib.Dec.{eqb}
 use lib.ListN.{length}
 use Rattle.std.specs.Holes.{removed}
 use Rattle.std.specs.declared.option.Option.{Option}
@@ -14,14 +14,14 @@ use Rattle.std.specs.declared.option.Option.the-variants.{Some, None}
 use Rattle.std.specs.declared.result.Result.{Result}
 use Rattle.std.specs.declared.result.Result.the-variants.{Ok, Err}
 use Rattle.std.proofs.shelf.Ways.{tells, not-from-decides}
-use Rattle.std.proofs.shelf.Tests.{cases-bool, cases-lt, cond-both, cond-true, cond-false, eq-eqb, ne-eqb, both-ways}
+use Rattle.std.proofs.shelf.Tests.{cases-bool, cases-lt, cond-both, cond-true, eq-eqb}
 use Rattle.market.specs.declared.types.Side.{Side}
 use Rattle.market.specs.declared.types.Side.the-variants.{Buy, Sell}
 use Rattle.market.specs.declared.types.Refusal.{Refusal}
-use Rattle.market.specs.declared.types.Refusal.the-variants.{Price, Shares, SmallOlo, SmallIlo, LargeMtv, SideFull, ArrivalsSpent, ShortReport, NotResting, CutShares, MarketNumber, Quotation}
+use Rattle.market.specs.declared.types.Refusal.the-variants.{Price, Shares, SmallOlo, SmallIlo, LargeMtv, SideFull, ArrivalsSpent, ShortReport, NotResting, MarketNumber, Quotation}
 use Rattle.market.specs.Words.{in-range, opposite}
 use Rattle.shelf.specs.Standing.{nth, put-in}
-use Rattle.board.specs.Quotes.{Quotes, Lawful, market-ok, quote-ok, removes, post-answer, posted, with-quote, if-ok}
+use Rattle.board.specs.Quotes.{Quotes, Lawful, market-ok, quote-ok, removes, posted, with-quote, if-ok}
 use Rattle.rules.specs.declared.types.Kind.{Kind}
 use Rattle.rules.specs.declared.types.Kind.the-variants.{Displayed, Dark, Olo, Ilo}
 use Rattle.rules.specs.declared.types.Order.{Order}
@@ -33,14 +33,14 @@ use Rattle.rules.specs.declared.types.Accepted.{Accepted}
 use Rattle.rules.specs.Orders.{is-olo, is-ilo, cancels, too-small}
 use Rattle.rules.specs.Rankings.{Ranking, Ranks, before}
 use Rattle.rules.specs.Sweeps.{less, standing, measured-sweep}
-use Rattle.rules.specs.Calls.{Market, market, fresh, Terms, terms, of-side, with-side, Outcome, outcome, accepted, decided, new-order, arriving, enter-refusal, entered, settled, enter, at-rest, open-of, cancel-refusal, cut-refusal, leaves, cut-down, taken-off, moved, cancelled, cut-stayed, cut-to, cancel, cut, post-accepted, post, apply, lit}
+use Rattle.rules.specs.Calls.{Market, market, fresh, terms, of-side, with-side, Outcome, outcome, accepted, decided, new-order, arriving, enter-refusal, entered, settled, enter, at-rest, open-of, cancel-refusal, cut-refusal, leaves, cut-down, taken-off, moved, cancelled, cut-stayed, cut-to, cancel, cut, post-accepted, post, apply, lit}
 use Rattle.rules.specs.Tape.{Account, empty-account, remainder-of, remainder, changed, change, added, reckon-rows, cut-by, reckon-call, reckon}
-use Rattle.rules.specs.Judge.{First-case, Cases, Outside, Too-small, Leaves, resting-on, refusal-of, Sized, Fair-entry, Fair-cut, Fair-call, Judged}
-use Rattle.rules.specs.Law.{entry, after, tape, Fair-tape, Tape-law, Goes-on, Tape-goes-on}
-use Rattle.rules.proofs.Branches.{by-test, by-option, some-is, none-some}
+use Rattle.rules.specs.Judge.{First-case, Cases, Outside, Too-small, resting-on, refusal-of, Sized, Fair-entry, Fair-call, Judged}
+use Rattle.rules.specs.Law.{entry, after, tape, Fair-tape, Tape-law, Tape-goes-on, Upholds}
+use Rattle.rules.proofs.Branches.{by-test, by-option, none-some}
 use Rattle.rules.proofs.Finding.{found, nth-found}
 use Rattle.rules.proofs.Quotations.{with-quote-lawful}
-use Rattle.rules.proofs.Conditions.{arrival-of, Order-kept, Side-kept, living, living-open, living-is}
+use Rattle.rules.proofs.Conditions.{arrival-of, Side-kept, living, living-open, living-is}
 use Rattle.rules.proofs.Markets.{found-in, found-in-tag, Kept, Matches, order-of, order-at-rest, located-there, remainder-is, kept-found, resting-is}
 use Rattle.rules.proofs.Refusals.{decides-too-small, decides-leaves, enter-case, cancel-case, cut-case, post-case}
 use Rattle.rules.proofs.Entering.{few-rows, same-arrival, entered-fair, entered-kept, entered-matches}
@@ -295,3 +295,9 @@ tape-goes-on t m (d ∷ cs) c room =
     let o = apply t m (d .0) (d .1) in
     let rest = tape-goes-on t (o .market) cs c room in
     record { tape-is = ap (λ es. entry (d .0) (d .1) o ∷ es) (rest .tape-is); after-is = rest .after-is }
+
+-- the law at one call, for the contract of whatever makes it
+pub upholds : (ranking : Ranking) → Ranks ranking → (m : Market) (c : Call) (room : ℕ) → Upholds ranking m c room (apply (terms ranking) m c room)
+upholds ranking law m c room b l cs e =
+    subst (λ x. Fair-tape ranking (empty-account b) (tape (terms ranking) (fresh b) cs ++ entry c room (apply (terms ranking) x c room) ∷ [])) e
+    (subst (Fair-tape ranking (empty-account b)) (tape-goes-on (terms ranking) (fresh b) cs c room .tape-is) (tape-law ranking law b l (cs ++ (c, room) ∷ [])))

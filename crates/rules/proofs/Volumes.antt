@@ -1,20 +1,16 @@
 -- The volume that the rules measure over the lists is the one that the judge reckons from the account.
 -- Rests on the lemmas on conditions and on sums over numbers.
 use mathlib.Core.Path.{_≡_, refl, sym, ap, subst, _∙_}
-use mathlib.Core.Bool.{Bool, true, false, cond, not}
-use mathlib.Core.List.{List, [], _∷_}
-use mathlib.Core.Logic.{_⊎_, inl, inr}
-use Prim.Native.Nat.{ℕ, zero, suc, _+_, _≤_, _<_}
+use mathlib.Core.Bool.{Bool, true, false, cond}
+use mathlib.Core.Logic.{inl, inr}
+use Prim.Native.Nat.{ℕ, zero, suc, _≤_}
 use native.Mathlib.Omega.{arith}
-use lib.Dec.{eqb}
 use Rattle.std.specs.declared.option.Option.{Option}
 use Rattle.std.specs.declared.option.Option.the-variants.{Some, None}
 use Rattle.std.specs.Orderings.{Decides}
-use Rattle.std.specs.shelf.Lists.{All}
 use Rattle.std.proofs.shelf.Ways.{not-from-decides}
 use Rattle.std.proofs.shelf.Tests.{cases-eq, cond-both, both-ways}
 use Rattle.std.proofs.shelf.Elements.{all-weaker}
-use Rattle.market.specs.declared.types.Side.{Side}
 use Rattle.market.specs.Words.{opposite}
 use Rattle.board.specs.declared.types.Quote.{Quote}
 use Rattle.board.specs.Quotes.{Quotes}
@@ -26,7 +22,7 @@ use Rattle.rules.specs.Calls.{or-else}
 use Rattle.rules.specs.Tape.{Account}
 use Rattle.rules.specs.Judge.{Not-better, First-four, Counts, Sum, Order-counts, Quote-counts, Volume, count-upto}
 use Rattle.rules.proofs.Branches.{by-test, by-option, some-is, none-some}
-use Rattle.rules.proofs.Finding.{found, found-tag}
+use Rattle.rules.proofs.Finding.{found}
 use Rattle.rules.proofs.Counting.{count-found, sum-is}
 use Rattle.rules.proofs.Quotations.{decides-not-better}
 use Rattle.rules.proofs.Conditions.{arrival-of, Order-kept, Sound, Agrees, living, living-open, living-is, opp-at-rest, older, at-rest-tag, rests-across, decides-first-four}

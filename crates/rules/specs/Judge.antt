@@ -1,7 +1,7 @@
 -- The judge of a tape: what each row, each sweep's end and each answer must be, said of the tape and the account alone.
 -- Rests on the reckoner, and on the words for kinds, prices and rankings; no step of a sweep stands here.
 use mathlib.Core.Path.{_≡_}
-use mathlib.Core.Bool.{Bool, true, false, cond, _&&_}
+use mathlib.Core.Bool.{true, false, cond, _&&_}
 use mathlib.Core.List.{List, [], _∷_}
 use mathlib.Core.Logic.{_⊎_}
 use Prim.Native.Nat.{ℕ, zero, suc, _+_, _-_, _*_, _≤_, _<_, min}
@@ -82,6 +82,7 @@ pub record Fair-fill (ranking : Ranking) (a : Account) (arrival incoming resting
   pub entry : incoming ≡ arrival
   pub known : a .known incoming ≡ Some i
   pub at-rest : a .known resting ≡ Some o
+  pub numbered : resting ≡ o .arrival
   pub in-turn : In-turn ranking a i o
   pub no-bid-above : None-better (a .quotes) Buy price
   pub no-offer-below : None-better (a .quotes) Sell price

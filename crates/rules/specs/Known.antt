@@ -1,5 +1,5 @@
 -- Sweeps whose fills are known, worked out by hand, as one computed test over the calls.
--- Rests on the rules of the calls, with the ranking size-time and, at the start, no quotation.
+-- Rests on the tape of calls, with the ranking size-time and, at the start, no quotation.
 use mathlib.Core.Bool.{Bool, true, false, _&&_}
 use mathlib.Core.List.{List, [], _∷_, _++_}
 use Prim.Native.Nat.{ℕ}
@@ -16,19 +16,28 @@ use Rattle.rules.specs.declared.types.Call.{Call}
 use Rattle.rules.specs.declared.types.Call.the-variants.{Enter, Cut, Post}
 use Rattle.rules.specs.Rankings.{size-time}
 use Rattle.rules.specs.Calls.{Market, Figures, terms, fresh, figures, apply}
+use Rattle.rules.specs.Tape.{Entry}
+use Rattle.rules.specs.Law.{after, tape}
 
 -- a fresh book over a board with no quotation
 abbrev pub nothing-yet : Market
 nothing-yet = fresh (λ side market. None)
 
--- the rows of calls, first to last, and the market that they leave
-abbrev pub rows-of : Market → List Call → List Row
-rows-of m [] = []
-rows-of m (c ∷ cs) = apply (terms size-time) m c 144 .rows ++ rows-of (apply (terms size-time) m c 144 .market) cs
+-- calls, each with a report of 144 rows
+abbrev with-reports : List Call → List (Call × ℕ)
+with-reports [] = []
+with-reports (c ∷ cs) = (c, 144) ∷ with-reports cs
 
-abbrev pub left-by : Market → List Call → Market
-left-by m [] = m
-left-by m (c ∷ cs) = left-by (apply (terms size-time) m c 144 .market) cs
+-- the rows of their tape, first to last, and the market that they leave
+abbrev rows-on : List Entry → List Row
+rows-on [] = []
+rows-on (e ∷ es) = e .rows ++ rows-on es
+
+abbrev rows-of : List Call → List Row
+rows-of cs = rows-on (tape (terms size-time) nothing-yet (with-reports cs))
+
+abbrev left-by : List Call → Market
+left-by cs = after (terms size-time) nothing-yet (with-reports cs)
 
 abbrev same-row : Row → Row → Bool
 same-row (Fill i r p n) (Fill j s q k) = eqb i j && (eqb r s && (eqb p q && eqb n k))
@@ -60,7 +69,7 @@ same-left (o ∷ os) (y ∷ ys) = eqb (o .arrival) (y .arrival) && (eqb (o .pric
 -- calls on a fresh book give exactly these rows, and leave these bids and offers, first to last
 abbrev gives : List Call → List Row → List Left → List Left → Bool
 gives cs rows bids offers =
-    same-rows (rows-of nothing-yet cs) rows && (same-left (left-by nothing-yet cs .bids) bids && same-left (left-by nothing-yet cs .offers) offers)
+    same-rows (rows-of cs) rows && (same-left (left-by cs .bids) bids && same-left (left-by cs .offers) offers)
 
 -- entries of an OLO bid, and of an ILO sale of Type 1 whose residue is cancelled
 abbrev olo-bid : ℕ → ℕ → Call
@@ -144,7 +153,7 @@ sweep12 = gives (Enter Buy 1000 (Ilo Type1 0 Rest) 5000 ∷ Enter Buy 1000 Displ
 
 -- an OLO of 700 cut by 200 stays, and cut by 201 leaves, with all 700 cancelled
 abbrev cut-of-700 : ℕ → Figures
-cut-of-700 n = figures (apply (terms size-time) (left-by nothing-yet (olo-bid 1000 700 ∷ [])) (Cut 1 n) 144 .answer)
+cut-of-700 n = figures (apply (terms size-time) (left-by (olo-bid 1000 700 ∷ [])) (Cut 1 n) 144 .answer)
 
 abbrev cuts : Bool
 cuts = gives (olo-bid 1000 700 ∷ Cut 1 200 ∷ []) [] (left 1 1000 500 ∷ []) []

@@ -40,3 +40,10 @@ pub record Goes-on (t : Terms) (m : Market) (cs : List (Call × ℕ)) (c : Call)
 
 abbrev pub Tape-goes-on : Type 0
 Tape-goes-on = (t : Terms) (m : Market) (cs : List (Call × ℕ)) (c : Call) (room : ℕ) → Goes-on t m cs c room
+
+-- What one call owes to the law: whatever history led to the market m, the tape of that history and
+-- of this call passes the judge.
+abbrev pub Upholds : Ranking → Market → Call → ℕ → Outcome → Type 0
+Upholds ranking m c room o =
+    (b : Quotes) → Lawful b → (cs : List (Call × ℕ)) → after (terms ranking) (fresh b) cs ≡ m
+    → Fair-tape ranking (empty-account b) (tape (terms ranking) (fresh b) cs ++ entry c room o ∷ [])

@@ -9,3 +9,4 @@ pub mod Law
 pub mod Known
 pub mod Objections
 pub mod Keeping
+pub mod Verdicts

@@ -15,7 +15,7 @@ use Rattle.rules.specs.declared.types.Routing.the-variants.{Type1, Type2}
 use Rattle.rules.specs.declared.types.Mark.the-variants.{Rest}
 use Rattle.rules.specs.declared.types.Kind.the-variants.{Displayed, Olo, Ilo}
 use Rattle.rules.specs.declared.types.Row.{Row}
-use Rattle.rules.specs.declared.types.Row.the-variants.{Fill, Route}
+use Rattle.rules.specs.declared.types.Row.the-variants.{Fill}
 use Rattle.rules.specs.declared.types.Call.{Call}
 use Rattle.rules.specs.declared.types.Call.the-variants.{Enter, Cut, Cancel, Post}
 use Rattle.rules.specs.Rankings.{size-time}

@@ -6,6 +6,7 @@ ghost use Rattle.rules.specs.Keeping.{Shares-kept, Fills-kept, Rows-fit, Sides
 ghost use Rattle.rules.specs.Known.{Known};
 ghost use Rattle.rules.specs.Law.{Tape-law, Tape-goes-on};
 ghost use Rattle.rules.specs.Objections.{Objections};
+ghost use Rattle.rules.specs.Verdicts.{One-verdict};
 
 // The law of the tape: for every lawful ranking, every start of the board and every list of calls,
 // each entry of the tape passes the judge.
@@ -25,6 +26,13 @@ pub fn tape_goes_on() -> u8
 // The sweeps whose fills are known come out so.
 pub fn known_sweeps() -> u8
     ensures { λ _. ⌜ Known ≡ true ⌝ }
+{
+    0
+}
+
+// The judge leaves no choice: of the same calls only one tape passes.
+pub fn one_verdict() -> u8
+    ensures { λ _. ⌜ One-verdict ⌝ }
 {
     0
 }
