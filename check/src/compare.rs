@@ -1,6 +1,6 @@
 //! One file, played by the proved library and by the literal rules.
 
-use crate::file::{read, Bad};
+use crate::file::{read, Bad, Call};
 use crate::library::Library;
 use crate::{listing, program, reckoner};
 
@@ -10,6 +10,8 @@ pub struct Difference {
     pub what: String,
     pub library: String,
     pub rules: String,
+    /// What the reckoner says of each of the two, if the file is lawful: it tells which is wrong.
+    pub reckoner: String,
 }
 
 fn text(bytes: &[u8]) -> String {
@@ -18,6 +20,13 @@ fn text(bytes: &[u8]) -> String {
 
 fn bad_line(bad: Bad) -> String {
     format!("BAD {} {} {}\n", bad.number, bad.index, bad.place)
+}
+
+fn judged(name: &str, calls: &[Call], listing: &[u8]) -> String {
+    match reckoner::judge(calls, listing) {
+        Ok(()) => format!("no fault in the listing of {name}\n"),
+        Err(fault) => format!("the listing of {name}: {fault}\n"),
+    }
 }
 
 /// Compares listing or number, byte for byte, and has the reckoner judge the library's listing.
@@ -40,12 +49,18 @@ pub fn compare(file: &[u8], library: &mut Library) -> Result<Result<Vec<u8>, Bad
     };
     if !equal {
         let what = "the library and the rules differ".to_string();
-        return Err(Box::new(Difference { what, library: said, rules: ours() }));
+        let reckoner = match (read(file), &played, &rules) {
+            (Ok(calls), Ok(Ok(theirs)), Ok(ours)) => {
+                judged("the library", &calls, theirs) + &judged("the rules", &calls, ours)
+            }
+            _ => String::new(),
+        };
+        return Err(Box::new(Difference { what, library: said, rules: ours(), reckoner }));
     }
     if let (Ok(Ok(listing)), Ok(calls)) = (&played, read(file)) {
         if let Err(fault) = reckoner::judge(&calls, listing) {
-            let what = format!("the reckoner: {fault}");
-            return Err(Box::new(Difference { what, library: said, rules: ours() }));
+            let what = "the reckoner finds a fault in the listing of both".to_string();
+            return Err(Box::new(Difference { what, library: said, rules: ours(), reckoner: fault }));
         }
     }
     Ok(rules)
@@ -65,5 +80,5 @@ pub fn compare_program(file: &[u8]) -> Result<(), Box<Difference>> {
         return Ok(());
     }
     let what = "program rig and the rules differ".to_string();
-    Err(Box::new(Difference { what, library: said, rules }))
+    Err(Box::new(Difference { what, library: said, rules, reckoner: String::new() }))
 }

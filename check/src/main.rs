@@ -138,7 +138,12 @@ impl Run {
 }
 
 fn print_both(difference: &Difference) {
-    for (name, text) in [("the library or program", &difference.library), ("the rules", &difference.rules)] {
+    let parts = [
+        ("the library or program", &difference.library),
+        ("the rules", &difference.rules),
+        ("the reckoner", &difference.reckoner),
+    ];
+    for (name, text) in parts.iter().filter(|(_, text)| !text.is_empty()) {
         println!("{name}:");
         for line in text.lines() {
             println!("  {line}");
