@@ -9,9 +9,9 @@ use Rattle.board.specs.Quotes.{Quotes, Lawful}
 use Rattle.rules.specs.declared.types.Call.{Call}
 use Rattle.rules.specs.Rankings.{Ranking, Ranks}
 use Rattle.rules.specs.Calls.{Market, Outcome, terms, fresh, apply, decided, cells-ok, cells-refusal}
-use Rattle.rules.specs.Tape.{Entry, empty-account}
-use Rattle.rules.specs.Law.{Fair-tape, tape, after, entry}
-use Rattle.rules.proofs.Tapes.{tape-law, tape-goes-on}
+use Rattle.law.specs.Tape.{Entry, empty-account}
+use Rattle.law.specs.Law.{Fair-tape, tape, after, entry}
+use Rattle.law.proofs.Tapes.{tape-law, tape-goes-on}
 use Rattle.book.specs.Tapes.{Goes-on-fairly}
 
 pub goes-on-fairly : (ranking : Ranking) → Ranks ranking → (a b : ℕ) (m : Market) (c : Call) (room : ℕ) (o : Outcome) → o ≡ decided (cells-refusal a b) m (apply (terms ranking) m c room) → (start : Quotes) (calls : List (Call × ℕ)) → Lawful start → cells-ok a b ≡ true → m ≡ after (terms ranking) (fresh start) calls → Goes-on-fairly ranking start calls c room o

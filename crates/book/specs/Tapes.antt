@@ -7,8 +7,8 @@ use Rattle.board.specs.Quotes.{Quotes}
 use Rattle.rules.specs.declared.types.Call.{Call}
 use Rattle.rules.specs.Rankings.{Ranking}
 use Rattle.rules.specs.Calls.{Outcome, terms, fresh}
-use Rattle.rules.specs.Tape.{empty-account}
-use Rattle.rules.specs.Law.{Fair-tape, tape, after, entry}
+use Rattle.law.specs.Tape.{empty-account}
+use Rattle.law.specs.Law.{Fair-tape, tape, after, entry}
 
 -- The calls were made on a fresh book over a board that meant `start`, and then this one, with what
 -- it gave: the whole tape passes the judge, and the market is what all these calls leave.

@@ -7,7 +7,7 @@ ghost use lib.ListN.{length};
 ghost use Rattle.board.specs.Quotes.{Quotes, Lawful};
 ghost use Rattle.rules.specs.declared.types.Row.{Row};
 ghost use Rattle.rules.specs.Calls.{cells-ok, fresh, cells-refusal, decided, outcome, rows-in, rows-kept, terms, apply, post};
-ghost use Rattle.rules.specs.Law.{after};
+ghost use Rattle.law.specs.Law.{after};
 ghost use Rattle.book.specs.Held.{held, cells-kept};
 ghost use Rattle.book.specs.Tapes.{Goes-on-fairly};
 use super::book::Book;

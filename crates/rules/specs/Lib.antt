@@ -3,10 +3,3 @@ pub mod Rankings
 pub mod Trading
 pub mod Sweeps
 pub mod Calls
-pub mod Tape
-pub mod Judge
-pub mod Law
-pub mod Known
-pub mod Objections
-pub mod Keeping
-pub mod Verdicts

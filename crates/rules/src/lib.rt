@@ -1,5 +1,4 @@
 // Orders, rankings, and the rules by which orders trade: the types that calls speak of, and in
 // specs/ what each call gives.
-pub mod law;
 pub mod ranking;
 pub mod types;
