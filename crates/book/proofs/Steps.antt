@@ -1,6 +1,6 @@
 -- One step of a sweep, case by case, and a sweep by its first step. Assumes nothing.
 use mathlib.Core.Path.{_≡_, refl, sym, ap, _∙_}
-use mathlib.Core.Bool.{Bool, true, false, cond}
+use mathlib.Core.Bool.{Bool, true, false, cond, not}
 use mathlib.Core.List.{List, [], _∷_, _++_, append-assoc, append-nil}
 use Prim.Native.Nat.{ℕ, zero, suc, _+_, _<_, _≤_}
 use native.Mathlib.Omega.{arith}
@@ -68,3 +68,9 @@ measured-enough s e = ap (λ b. cond b (sweep 144 s) (swept [] s)) e
 pub measured-short : (s : Stand) → leb (mtv-of (s .incoming .kind)) (volume (s .incoming) (s .opp) (s .quotes)) ≡ false → measured-sweep s ≡ swept [] s
 unfolding measured-sweep
 measured-short s e = ap (λ b. cond b (sweep 144 s) (swept [] s)) e
+
+pub not-back : (b c : Bool) → not b ≡ not c → b ≡ c
+not-back true true e = refl
+not-back true false e = sym e
+not-back false true e = sym e
+not-back false false e = refl

@@ -6,12 +6,11 @@ use Prim.Native.Nat.{ℕ}
 use Rattle.board.specs.Quotes.{Quotes}
 use Rattle.rules.specs.declared.types.Call.{Call}
 use Rattle.rules.specs.Rankings.{Ranking}
-use Rattle.rules.specs.Calls.{Outcome, terms, fresh}
-use Rattle.law.specs.Tape.{empty-account}
-use Rattle.law.specs.Law.{Fair-tape, tape, after, entry}
+use Rattle.rules.specs.Calls.{Market, Outcome, terms, fresh}
+use Rattle.law.specs.Law.{Upholds, after}
 
--- The calls were made on a fresh book over a board that meant `start`, and then this one, with what
--- it gave: the whole tape passes the judge, and the market is what all these calls leave.
-pub record Goes-on-fairly (ranking : Ranking) (start : Quotes) (calls : List (Call × ℕ)) (call : Call) (room : ℕ) (gave : Outcome) : Type 0 where
-  pub fair : Fair-tape ranking (empty-account start) (tape (terms ranking) (fresh start) calls ++ entry call room gave ∷ [])
-  pub leaves : gave .market ≡ after (terms ranking) (fresh start) (calls ++ (call, room) ∷ [])
+-- Whatever calls led from a fresh book to the market m, their tape with the entry of this call
+-- passes the judge, and the market after it is what those calls and this one leave.
+pub record Goes-on-fairly (ranking : Ranking) (m : Market) (call : Call) (room : ℕ) (gave : Outcome) : Type 0 where
+  pub fair : Upholds ranking m call room gave
+  pub leaves : (start : Quotes) (calls : List (Call × ℕ)) → after (terms ranking) (fresh start) calls ≡ m → gave .market ≡ after (terms ranking) (fresh start) (calls ++ (call, room) ∷ [])

@@ -2,12 +2,9 @@
 ghost use mathlib.Core.Path.{_≡_};
 ghost use mathlib.Core.List.{List, []};
 ghost use mathlib.Core.Bool.{true};
-ghost use Prim.Native.Nat.{ℕ};
 ghost use lib.ListN.{length};
-ghost use Rattle.board.specs.Quotes.{Quotes, Lawful};
 ghost use Rattle.rules.specs.declared.types.Row.{Row};
-ghost use Rattle.rules.specs.Calls.{cells-ok, fresh, cells-refusal, decided, outcome, rows-in, rows-kept, terms, apply, post};
-ghost use Rattle.law.specs.Law.{after};
+ghost use Rattle.rules.specs.Calls.{cells-ok, cells-refusal, decided, outcome, rows-in, rows-kept, terms, apply, post};
 ghost use Rattle.book.specs.Held.{held, cells-kept};
 ghost use Rattle.book.specs.Tapes.{Goes-on-fairly};
 use super::book::Book;
@@ -81,9 +78,9 @@ impl<R: Ranking + Copy> Book<R> {
         }
     }
 
-    // Makes one call. Beside what the rules say of it, its contract has the law of the tape: if the
-    // market at entry is what calls on a fresh book left, over any lawful start of the board, the
-    // tape of those calls and this one passes the judge at every entry.
+    // Makes one call. Beside what the rules say of it, its contract has the law of the tape:
+    // whatever calls led from a fresh book to the market at entry, over any lawful start of the
+    // board, the tape of those calls and this one passes the judge at every entry.
     pub fn apply<B: Board>(
         &mut self,
         call: Call,
@@ -95,7 +92,7 @@ impl<R: Ranking + Copy> Book<R> {
         ensures outcome { λ r. ⌜ outcome r (rows-in r (now (report .exit))) (held (now (self .exit)) (now (bids .exit)) (now (offers .exit)) (quotes (now (board .exit)))) ≡ decided (cells-refusal (length (now (bids .entry))) (length (now (offers .entry)))) (held (now (self .entry)) (now (bids .entry)) (now (offers .entry)) (quotes (now (board .entry)))) (apply (terms (ranked (now (self .entry) .ranking))) (held (now (self .entry)) (now (bids .entry)) (now (offers .entry)) (quotes (now (board .entry)))) call (length (now (report .entry)))) ⌝ }
         ensures cells { λ r. ⌜ cells-kept r (now (self .entry)) (now (self .exit)) (now (bids .entry)) (now (bids .exit)) (now (offers .entry)) (now (offers .exit)) ⌝ }
         ensures rows { λ r. ⌜ rows-kept r (now (report .entry)) (now (report .exit)) ⌝ }
-        ensures tape { λ r. ⌜ ((start : Quotes) (calls : List (Call × ℕ)) → Lawful start → cells-ok (length (now (bids .entry))) (length (now (offers .entry))) ≡ true → held (now (self .entry)) (now (bids .entry)) (now (offers .entry)) (quotes (now (board .entry))) ≡ after (terms (ranked (now (self .entry) .ranking))) (fresh start) calls → Goes-on-fairly (ranked (now (self .entry) .ranking)) start calls call (length (now (report .entry))) (outcome r (rows-in r (now (report .exit))) (held (now (self .exit)) (now (bids .exit)) (now (offers .exit)) (quotes (now (board .exit)))))) ⌝ }
+        ensures tape { λ r. ⌜ (cells-ok (length (now (bids .entry))) (length (now (offers .entry))) ≡ true → Goes-on-fairly (ranked (now (self .entry) .ranking)) (held (now (self .entry)) (now (bids .entry)) (now (offers .entry)) (quotes (now (board .entry)))) call (length (now (report .entry))) (outcome r (rows-in r (now (report .exit))) (held (now (self .exit)) (now (bids .exit)) (now (offers .exit)) (quotes (now (board .exit)))))) ⌝ }
     {
         self.make_call(call, bids, offers, board, report)
     }

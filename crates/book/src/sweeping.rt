@@ -1,11 +1,15 @@
 // The sweep of an entry: routes and fills, one at a time, until nothing is left of it or nothing
 // may trade.
 ghost use mathlib.Core.Path.{_≡_};
+ghost use mathlib.Core.Bool.{not};
 ghost use Prim.Native.Nat.{ℕ, _+_, _-_, _≤_, _<_, min};
+ghost use lib.Dec.{leb};
 ghost use lib.ListN.{length, take, drop};
 ghost use Rattle.std.specs.declared.option.Option.the-variants.{Some, None};
 ghost use Rattle.market.specs.Words.{opposite};
 ghost use Rattle.rules.specs.declared.types.Row.the-variants.{Fill, Route};
+ghost use Rattle.rules.specs.Orders.{mtv-of};
+ghost use Rattle.rules.specs.Trading.{volume};
 ghost use Rattle.rules.specs.Sweeps.{with-open, taken, filled, standing, stepped, routed-first, next, sweep, swept, measured-sweep};
 use super::eligible::bests;
 use super::eligible::choose;
@@ -183,6 +187,15 @@ fn sweep<B: Board>(
     }
 }
 
+// Whether the volume is below the MTV of an entry. One without an MTV is not measured.
+fn falls_short<B: Board>(incoming: &Order, board: &B, opp: &[Order]) -> bool
+    requires { ⌜ length (now opp) ≤ 128 ⌝ }
+    ensures { λ r. ⌜ r ≡ not (leb (mtv-of (now (incoming .entry) .kind)) (volume (now (incoming .entry)) (now (opp .entry)) (quotes (now (board .entry))))) ⌝ }
+{
+    let mtv = mtv_of(incoming.kind);
+    mtv > 0 && volume(incoming, board, opp) < u64::from(mtv)
+}
+
 // An entry is measured first: with a volume below its MTV nothing trades.
 pub fn measured_sweep<B: Board>(
     incoming: &Order,
@@ -197,7 +210,7 @@ pub fn measured_sweep<B: Board>(
     ensures used { λ r. ⌜ (r .used ≤ used) × (r .rows ≤ 144) ⌝ }
     ensures behind { λ r. ⌜ (drop (r .rows) (now (report .exit)) ≡ drop (r .rows) (now (report .entry))) × (drop used (now (opp .exit)) ≡ drop used (now (opp .entry))) ⌝ }
 {
-    if volume(incoming, board, &opp[0..used]) < u64::from(mtv_of(incoming.kind)) {
+    if falls_short(incoming, board, &opp[0..used]) {
         return Swept {
             rows: 0,
             open: incoming.open,

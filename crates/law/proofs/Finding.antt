@@ -18,7 +18,7 @@ use Rattle.std.proofs.shelf.Elements.{all-weaker}
 use Rattle.shelf.specs.declared.types.Placed.{Placed}
 use Rattle.shelf.specs.Order.{Total, Pairwise, Sorted, Distinct}
 use Rattle.shelf.specs.Standing.{first, put-in, nth}
-use Rattle.shelf.proofs.Sorting.{all-put-in}
+use Rattle.shelf.proofs.Sorting.{all-put-in, all-removed, pairwise-removed}
 use Rattle.law.proofs.Branches.{some-is, none-some}
 
 module _ {X : Type 0} where
@@ -121,22 +121,17 @@ module _ {X : Type 0} where
       grind (arith, tells)
 
   pub all-edited : (P : X → Type 0) (xs : List X) (j : ℕ) (r : Option X) → ((y : X) → r ≡ Some y → P y) → All P xs → All P (edited xs j r)
-  all-edited P [] zero None k a = tt
-  all-edited P [] (suc j) None k a = tt
-  all-edited P [] zero (Some y) k a = tt
-  all-edited P [] (suc j) (Some y) k a = tt
-  all-edited P (x ∷ xs) zero None k a = a .1
+  all-edited P xs j None k a = all-removed P xs j a
+  all-edited P [] j (Some y) k a = tt
   all-edited P (x ∷ xs) zero (Some y) k a = (k y refl, a .1)
-  all-edited P (x ∷ xs) (suc j) None k a = (a .0, all-edited P xs j None k (a .1))
   all-edited P (x ∷ xs) (suc j) (Some y) k a = (a .0, all-edited P xs j (Some y) k (a .1))
 
   -- a relation that what is put in keeps to the others stays
   pub pairwise-edited : (R : X → X → Type 0) (xs : List X) (j : ℕ) (x : X) (r : Option X) → nth j xs ≡ Some x → ((y z : X) → r ≡ Some y → R x z → R y z) → ((y z : X) → r ≡ Some y → R z x → R z y) → Pairwise R xs → Pairwise R (edited xs j r)
-  pairwise-edited R [] j x r e l k a = absurd (none-some x e)
-  pairwise-edited R (z ∷ xs) zero x None e l k a = a .1
+  pairwise-edited R xs j x None e l k a = pairwise-removed R xs j a
+  pairwise-edited R [] j x (Some y) e l k a = absurd (none-some x e)
   pairwise-edited R (z ∷ xs) zero x (Some y) e l k a =
       (all-weaker (R z) (R y) (λ w h. l y w refl (subst (λ v. R v w) (some-is z x e) h)) xs (a .0), a .1)
-  pairwise-edited R (z ∷ xs) (suc j) x None e l k a = (all-edited (R z) xs j None (λ y g. absurd (none-some y g)) (a .0), pairwise-edited R xs j x None e l k (a .1))
   pairwise-edited R (z ∷ xs) (suc j) x (Some y) e l k a =
       (all-edited (R z) xs j (Some y) (λ w g. k w z g (all-nth (R z) xs j x (a .0) e)) (a .0), pairwise-edited R xs j x (Some y) e l k (a .1))
 
@@ -146,10 +141,9 @@ module _ {X : Type 0} where
   length-removed (z ∷ xs) (suc j) x e = ap suc (length-removed xs j x e)
 
   pub length-edited : (xs : List X) (j : ℕ) (x : X) (r : Option X) → nth j xs ≡ Some x → length (edited xs j r) ≤ length xs
-  length-edited [] j x r e = absurd (none-some x e)
-  length-edited (z ∷ xs) zero x None e = omega arith
+  length-edited xs j x None e = let h = length-removed xs j x e in omega arith
+  length-edited [] j x (Some y) e = absurd (none-some x e)
   length-edited (z ∷ xs) zero x (Some y) e = omega arith
-  length-edited (z ∷ xs) (suc j) x None e = let h = length-edited xs j x None e in omega arith
   length-edited (z ∷ xs) (suc j) x (Some y) e = let h = length-edited xs j x (Some y) e in omega arith
 
   -- One thing put in.

@@ -14,18 +14,22 @@ use Rattle.market.specs.declared.types.Side.the-variants.{Buy, Sell}
 use Rattle.market.specs.declared.types.Refusal.{Refusal}
 use Rattle.market.specs.declared.types.Refusal.the-variants.{Price}
 use Rattle.market.specs.Words.{opposite}
-use Rattle.rules.specs.declared.types.Kind.the-variants.{Displayed, Olo}
+use Rattle.board.specs.declared.types.Quote.{Quote}
+use Rattle.rules.specs.declared.types.Routing.the-variants.{Type2}
+use Rattle.rules.specs.declared.types.Mark.the-variants.{Rest}
+use Rattle.rules.specs.declared.types.Kind.the-variants.{Displayed, Olo, Ilo}
 use Rattle.rules.specs.declared.types.Order.{Order}
 use Rattle.rules.specs.declared.types.Row.{Row}
-use Rattle.rules.specs.declared.types.Row.the-variants.{Fill}
+use Rattle.rules.specs.declared.types.Row.the-variants.{Fill, Route}
+use Rattle.rules.specs.declared.types.Call.the-variants.{Post}
 use Rattle.rules.specs.declared.types.Accepted.{Accepted}
 use Rattle.rules.specs.Orders.{mtv-of, program, meets}
 use Rattle.rules.specs.Rankings.{size-time}
 use Rattle.rules.specs.Calls.{new-order}
 use Rattle.rules.specs.Sweeps.{less}
 use Rattle.law.specs.Tape.{Account, empty-account, changed, added, reckon}
-use Rattle.law.specs.Judge.{Not-better, None-better, Rests, May-trade, In-turn, Fair-fill, Ended, Fair-entry}
-use Rattle.law.specs.Objections.{unquoted, bid, second-bid, below-bid, above-offer, unrouted, at-displayed, out-of-turn, other-price, fewer-shares, of-cancelled, of-nobody, ended-early, refused-outside, accepted-inside, shown-wrongly, unlit-wrongly, lit-wrongly, cut-too-small, Objects, Objections}
+use Rattle.law.specs.Judge.{Not-better, None-better, Rests, May-trade, In-turn, Fair-fill, Fair-route, Ended, Fair-entry}
+use Rattle.law.specs.Objections.{unquoted, answered, bid, second-bid, below-bid, above-offer, unrouted, routed-at-equal, routed-to-higher, at-displayed, out-of-turn, other-price, fewer-shares, more-shares, of-cancelled, of-nobody, ended-early, refused-outside, accepted-inside, shown-wrongly, unlit-wrongly, lit-wrongly, cut-too-small, Objects, Objections}
 use Rattle.law.proofs.Branches.{some-is, none-some}
 
 -- a case that does not hold is passed over
@@ -36,6 +40,9 @@ past n f = elim f [ inl h ↦ absurd (n (h .0)) | inr h ↦ h .1 ]
 module _ (a : Account) (i : Order) (w : Accepted) (z : mtv-of (i .kind) ≡ 0) where
   filled-by : (incoming resting price shares : ℕ) (rows : List Row) → Fair-entry size-time a i w (Fill incoming resting price shares ∷ rows) → (x : Order) × (o : Order) × Fair-fill size-time (added i a) (i .arrival) incoming resting price shares x o
   filled-by incoming resting price shares rows f = let (v, m) = f .measured in m .reached (omega arith) .0
+
+  routed-by : (incoming market price shares : ℕ) (rows : List Row) → Fair-entry size-time a i w (Route incoming market price shares ∷ rows) → (x : Order) × (o : Order) × (q : Quote) × Fair-route size-time (added i a) (i .arrival) incoming market price shares x o q
+  routed-by incoming market price shares rows f = let (v, m) = f .measured in m .reached (omega arith) .0
 
   ended-by : Fair-entry size-time a i w [] → Ended (added i a) (i .arrival)
   ended-by f = let (v, m) = f .measured in m .reached (omega arith)
@@ -89,6 +96,30 @@ no-unrouted h =
     let l : 1001 ≤ 1000 = f .no-bid-above 1 (record { price = 1001; shares = 100 }) refl in
     omega arith
 
+-- an ILO sale of 5,000 at 1000, of Type 2
+abbrev type2-sale : Order
+type2-sale = new-order 2 Sell 1000 (Ilo Type2 0 Rest) 5000
+
+no-routed-at-equal : Objects routed-at-equal
+no-routed-at-equal h =
+    let (i, o, q, f) = routed-by _ type2-sale _ refl 2 1 1000 100 _ (h .1 .1 .0 .answer) in
+    let a : Account = added type2-sale (reckon bid (reckon (answered (Post 1 Buy 1000 100) 0 0 0 [] [] false) start)) in
+    let x : type2-sale ≡ i = some-is type2-sale i (f .known) in
+    let g : Fair-route size-time a 2 2 1 1000 100 type2-sale o q = subst (λ v. Fair-route size-time a 2 2 1 1000 100 v o q) (sym x) f in
+    let p = g .at-price in
+    let l : o .price < q .price = g .better in
+    let r : 1000 ≤ o .price = g .in-turn .may-trade .first-four .limit in
+    omega arith
+
+no-routed-to-higher : Objects routed-to-higher
+no-routed-to-higher h =
+    let (i, o, q, f) = routed-by _ type2-sale _ refl 2 2 1001 100 _ (h .1 .1 .1 .0 .answer) in
+    let a : Account = added type2-sale (reckon bid (reckon (answered (Post 2 Buy 1001 100) 0 0 0 [] [] false) (reckon (answered (Post 1 Buy 1001 100) 0 0 0 [] [] false) start))) in
+    let x : type2-sale ≡ i = some-is type2-sale i (f .known) in
+    let g : Fair-route size-time a 2 2 2 1001 100 type2-sale o q = subst (λ v. Fair-route size-time a 2 2 2 1001 100 v o q) (sym x) f in
+    let l : 2 ≤ 1 = g .lowest 1 (record { price = 1001; shares = 100 }) refl (g .at-price) in
+    omega arith
+
 no-at-displayed : Objects at-displayed
 no-at-displayed h =
     let (i, o, f) = filled-by _ (new-order 3 Sell 1000 Olo 500) _ refl 3 1 1000 500 [] (h .1 .1 .0 .answer) in
@@ -123,6 +154,14 @@ no-fewer-shares h =
     let y : displayed-bid 1 ≡ o = some-is (displayed-bid 1) o (f .at-rest) in
     let n = f .quantity in
     let p : 100 ≡ i .«open» = ap (λ (v : Order). v .«open») x in
+    let q : 100 ≡ o .«open» = ap (λ (v : Order). v .«open») y in
+    omega arith
+
+no-more-shares : Objects more-shares
+no-more-shares h =
+    let (i, o, f) = filled-by one-bid (new-order 2 Sell 1000 Displayed 150) _ refl 2 1 1000 150 [] (h .1 .0 .answer) in
+    let y : displayed-bid 1 ≡ o = some-is (displayed-bid 1) o (f .at-rest) in
+    let n = f .quantity in
     let q : 100 ≡ o .«open» = ap (λ (v : Order). v .«open») y in
     omega arith
 
@@ -188,10 +227,13 @@ objections = record {
   below-bid = no-below-bid;
   above-offer = no-above-offer;
   unrouted = no-unrouted;
+  routed-at-equal = no-routed-at-equal;
+  routed-to-higher = no-routed-to-higher;
   at-displayed = no-at-displayed;
   out-of-turn = no-out-of-turn;
   other-price = no-other-price;
   fewer-shares = no-fewer-shares;
+  more-shares = no-more-shares;
   of-cancelled = no-of-cancelled;
   of-nobody = no-of-nobody;
   ended-early = no-ended-early;

@@ -15,7 +15,7 @@ use Rattle.rules.specs.declared.types.Routing.the-variants.{Type1, Type2}
 use Rattle.rules.specs.declared.types.Mark.the-variants.{Rest}
 use Rattle.rules.specs.declared.types.Kind.the-variants.{Displayed, Olo, Ilo}
 use Rattle.rules.specs.declared.types.Row.{Row}
-use Rattle.rules.specs.declared.types.Row.the-variants.{Fill}
+use Rattle.rules.specs.declared.types.Row.the-variants.{Fill, Route}
 use Rattle.rules.specs.declared.types.Call.{Call}
 use Rattle.rules.specs.declared.types.Call.the-variants.{Enter, Cut, Cancel, Post}
 use Rattle.rules.specs.Rankings.{size-time}
@@ -72,6 +72,18 @@ unrouted =
     answered (Post 1 Buy 1001 100) 0 0 0 [] [] false ∷ bid
     ∷ answered (Enter Sell 1000 (Ilo Type2 0 Rest) 5000) 2 4900 0 (Fill 2 1 1000 100 ∷ []) (shows 2 4900 ∷ []) true ∷ []
 
+-- a route at the price of the order whose turn it is, where nothing is to be gained
+abbrev pub routed-at-equal : List Entry
+routed-at-equal =
+    answered (Post 1 Buy 1000 100) 0 0 0 [] [] false ∷ bid
+    ∷ answered (Enter Sell 1000 (Ilo Type2 0 Rest) 5000) 2 4800 0 (Route 2 1 1000 100 ∷ Fill 2 1 1000 100 ∷ []) (shows 2 4800 ∷ []) true ∷ []
+
+-- of two equal bids the one of the higher market routed to first
+abbrev pub routed-to-higher : List Entry
+routed-to-higher =
+    answered (Post 1 Buy 1001 100) 0 0 0 [] [] false ∷ answered (Post 2 Buy 1001 100) 0 0 0 [] [] false ∷ bid
+    ∷ answered (Enter Sell 1000 (Ilo Type2 0 Rest) 5000) 2 4700 0 (Route 2 2 1001 100 ∷ Route 2 1 1001 100 ∷ Fill 2 1 1000 100 ∷ []) (shows 2 4700 ∷ []) true ∷ []
+
 -- a fill between two Program orders at the price of a displayed bid
 abbrev pub at-displayed : List Entry
 at-displayed =
@@ -90,6 +102,10 @@ other-price = bid ∷ answered (Enter Sell 999 Displayed 100) 2 0 0 (Fill 2 1 99
 -- a row of fewer shares than could trade
 abbrev pub fewer-shares : List Entry
 fewer-shares = bid ∷ answered sale 2 50 0 (Fill 2 1 1000 50 ∷ []) (shows 1 50 ∷ shows 2 50 ∷ []) false ∷ []
+
+-- a row of more shares than are open of the resting order
+abbrev pub more-shares : List Entry
+more-shares = bid ∷ answered (Enter Sell 1000 Displayed 150) 2 0 0 (Fill 2 1 1000 150 ∷ []) [] false ∷ []
 
 -- rows naming an order that does not rest: one that was cancelled, and one that never was
 abbrev pub of-cancelled : List Entry
@@ -136,10 +152,13 @@ pub record Objections : Type 0 where
   pub below-bid : Objects below-bid
   pub above-offer : Objects above-offer
   pub unrouted : Objects unrouted
+  pub routed-at-equal : Objects routed-at-equal
+  pub routed-to-higher : Objects routed-to-higher
   pub at-displayed : Objects at-displayed
   pub out-of-turn : Objects out-of-turn
   pub other-price : Objects other-price
   pub fewer-shares : Objects fewer-shares
+  pub more-shares : Objects more-shares
   pub of-cancelled : Objects of-cancelled
   pub of-nobody : Objects of-nobody
   pub ended-early : Objects ended-early
