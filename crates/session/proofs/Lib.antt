@@ -1,3 +1,4 @@
+mod Refusing
 mod Writing
 mod Scans
 mod Words

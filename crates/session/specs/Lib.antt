@@ -4,5 +4,6 @@ pub mod Files
 pub mod Written
 pub mod Listing
 pub mod Calls
+pub mod Sessions
 pub mod Packing
 pub mod Faults

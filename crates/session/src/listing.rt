@@ -127,7 +127,8 @@ pub fn write_rows(listing: &mut [u8], at: usize, rows: &[Row]) -> usize
 // The last line: whether the Liquidity Identifier is lit.
 pub fn write_light(listing: &mut [u8], at: usize, lit: bool) -> usize
     requires { ⌜ at + 5 ≤ length (now listing) ⌝ }
-    ensures { λ r. ⌜ Wrote at (now (listing .entry)) r (now (listing .exit)) (light-text lit) ⌝ }
+    ensures wrote { λ r. ⌜ Wrote at (now (listing .entry)) r (now (listing .exit)) (light-text lit) ⌝ }
+    ensures short { λ r. ⌜ r ≡ at + 5 ⌝ }
 {
     if lit {
         return write_bytes(listing, at, b"LI 1\n");

@@ -1,12 +1,13 @@
 // Running a session: all bodies are read before the first call runs, and then each is made a call
 // of a fresh book, whose answer and rows go into the listing.
 ghost use mathlib.Core.Path.{_≡_};
-ghost use Prim.Native.Nat.{_+_, _≤_};
-ghost use lib.ListN.{length};
-ghost use Rattle.std.specs.Vec.{made};
+ghost use Prim.Native.Nat.{ℕ, _+_, _≤_};
+ghost use lib.ListN.{length, drop};
+ghost use Rattle.std.specs.declared.result.Result.{Result};
 ghost use Rattle.session.specs.Lines.{line-of};
 ghost use Rattle.session.specs.Calls.{call-of};
 ghost use Rattle.session.specs.Listing.{label-text};
+ghost use Rattle.session.specs.Sessions.{Ran, host-number};
 use crate::body_at;
 use crate::check_file;
 use crate::listing::write_answer;
@@ -92,6 +93,12 @@ fn label_of<'a>(body: &Body<'a>) -> &'a [u8]
     }
 }
 
+// The bytes that one call's lines may take: a label of 12, four figures of 10 digits, and 144 rows;
+// and the last line behind them.
+const ENTRY_BYTES: usize = 12 + 45 + 46 * REPORT_ROWS;
+
+const LAST_LINE: usize = 5;
+
 // Makes the call of a body and writes its answer and its rows.
 fn play<R: Ranking + Copy, B: Board>(
     book: &mut Book<R>,
@@ -103,8 +110,8 @@ fn play<R: Ranking + Copy, B: Board>(
     listing: &mut [u8],
     at: usize,
 ) -> usize
-    requires { ⌜ at ≤ length (now listing) ⌝ }
-    ensures { λ r. ⌜ r ≤ length (now (listing .entry)) ⌝ }
+    requires { ⌜ at + 5 ≤ 65536 ⌝ ∗ ⌜ 65536 ≤ length (now listing) ⌝ }
+    ensures { λ r. ⌜ (at ≤ r) × (r + 5 ≤ 65536) × (drop r (now (listing .exit)) ≡ drop r (now (listing .entry))) ⌝ }
 {
     let answer = book.apply(call_of(body), bids, offers, board, report);
     let label = label_of(body);
@@ -112,11 +119,53 @@ fn play<R: Ranking + Copy, B: Board>(
         Ok(accepted) => accepted.rows.min(report.len()),
         Err(_) => 0,
     };
-    if label.len() > 12 || rows > REPORT_ROWS || listing.len() - at < 12 + 45 + 46 * REPORT_ROWS {
+    if label.len() > 12 || rows > REPORT_ROWS || at > LISTING_BYTES - LAST_LINE - ENTRY_BYTES {
         return at;
     }
     let end = write_answer(listing, at, label, answer);
     write_rows(listing, end, &report[0..rows])
+}
+
+// Plays the body of an index.
+fn play_at<R: Ranking + Copy, B: Board>(
+    book: &mut Book<R>,
+    file: &[u8],
+    index: usize,
+    bids: &mut [Order],
+    offers: &mut [Order],
+    board: &mut B,
+    report: &mut [Row],
+    listing: &mut [u8],
+    at: usize,
+) -> usize
+    requires { ⌜ at + 5 ≤ 65536 ⌝ ∗ ⌜ 65536 ≤ length (now listing) ⌝ }
+    ensures { λ r. ⌜ (at ≤ r) × (r + 5 ≤ 65536) × (drop r (now (listing .exit)) ≡ drop r (now (listing .entry))) ⌝ }
+{
+    let Some(body) = body_at(file, index) else {
+        return at;
+    };
+    play(book, &body, bids, offers, board, report, listing, at)
+}
+
+// Plays the bodies of a file one by one, and answers the place behind what was written.
+fn play_all<R: Ranking + Copy, B: Board>(
+    book: &mut Book<R>,
+    file: &[u8],
+    count: usize,
+    bids: &mut [Order],
+    offers: &mut [Order],
+    board: &mut B,
+    report: &mut [Row],
+    listing: &mut [u8],
+) -> usize
+    requires { ⌜ 65536 ≤ length (now listing) ⌝ }
+    ensures { λ r. ⌜ (r + 5 ≤ 65536) × (drop r (now (listing .exit)) ≡ drop r (now (listing .entry))) ⌝ }
+{
+    let mut at = 0;
+    for index in 0..count {
+        at = play_at(book, file, index, bids, offers, board, report, listing, at);
+    }
+    at
 }
 
 // Runs the session of a file over a fresh book and a board, and answers the length of the listing.
@@ -126,49 +175,51 @@ pub fn run<R: Ranking + Copy, B: Board>(
     file: &[u8],
     listing: &mut [u8],
 ) -> Result<usize, Refusal>
-    ensures { λ r. ⌜ made r (λ n. (n ≤ 65536) × (n ≤ length (now (listing .entry)))) ⌝ }
+    ensures { λ r. ⌜ Ran (now (file .entry)) (now (listing .entry)) (now (listing .exit)) r ⌝ }
 {
     if listing.len() < LISTING_BYTES {
         return Err(Refusal::ShortListing);
     }
-    let listing = &mut listing[0..LISTING_BYTES];
-    let count = check_file(file)?;
+    let count = match check_file(file) {
+        Ok(count) => count,
+        Err(refusal) => return Err(refusal),
+    };
     let mut bids = [NO_ORDER; CELLS];
     let mut offers = [NO_ORDER; CELLS];
     let mut report = [NO_ROW; REPORT_ROWS];
-    let mut book = Book::make(ranking, &bids, &offers)?;
-    let mut at = 0;
-    for index in 0..count {
-        if let Some(body) = body_at(file, index) {
-            at = play(
-                &mut book,
-                &body,
-                &mut bids,
-                &mut offers,
-                board,
-                &mut report,
-                listing,
-                at,
-            );
-        }
-    }
-    let lit = book.light(&bids, &offers)?;
-    if listing.len() - at < 5 {
-        return Err(Refusal::ShortListing);
-    }
+    let mut book = match Book::make(ranking, &bids, &offers) {
+        Ok(book) => book,
+        Err(refusal) => return Err(refusal),
+    };
+    let at = play_all(
+        &mut book,
+        file,
+        count,
+        &mut bids,
+        &mut offers,
+        board,
+        &mut report,
+        listing,
+    );
+    let lit = match book.light(&bids, &offers) {
+        Ok(lit) => lit,
+        Err(_) => false,
+    };
     Ok(write_light(listing, at, lit))
 }
 
 // The session that the rig plays: size-time, and a board without a quotation.
 pub fn run_session(file: &[u8], listing: &mut [u8]) -> Result<usize, Refusal>
-    ensures { λ r. ⌜ made r (λ n. (n ≤ 65536) × (n ≤ length (now (listing .entry)))) ⌝ }
+    ensures { λ r. ⌜ Ran (now (file .entry)) (now (listing .entry)) (now (listing .exit)) r ⌝ }
 {
     run(SizeTime, &mut Plate::new(), file, listing)
 }
 
 // The entry of the C host: the length of the listing, or 100,000 plus the number of the refusal.
 #[unsafe(no_mangle)]
-pub extern "C" fn rig_session(file: &[u8], listing: &mut [u8]) -> u32 {
+pub extern "C" fn rig_session(file: &[u8], listing: &mut [u8]) -> u32
+    ensures { λ n. ⌜ ((r : Result ℕ Refusal) × (n ≡ host-number r) × Ran (now (file .entry)) (now (listing .entry)) (now (listing .exit)) r) ⌝ }
+{
     match run_session(file, listing) {
         Ok(length) => length as u32,
         Err(refusal) => 100_000 + refusal.number(),
