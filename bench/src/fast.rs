@@ -51,8 +51,7 @@ struct Order {
     kind: Kind,
 }
 
-const NO_ORDER: Order =
-    Order { key: 0, arrival: 0, price: 0, open: 0, ranking_size: 0, mtv: 0, kind: Kind::Displayed };
+const NO_ORDER: Order = Order { key: 0, arrival: 0, price: 0, open: 0, ranking_size: 0, mtv: 0, kind: Kind::Displayed };
 
 struct Side {
     orders: [Order; SIDE_CELLS],

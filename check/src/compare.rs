@@ -66,12 +66,17 @@ pub fn compare(file: &[u8], library: &mut Library) -> Result<Result<Vec<u8>, Bad
     Ok(rules)
 }
 
-/// Compares what program rig prints, the whole `BAD` line or the listing.
-pub fn compare_program(file: &[u8]) -> Result<(), Box<Difference>> {
-    let rules = match listing::play(file) {
+/// What program rig must print by the rules: the `BAD` line or the listing.
+pub fn printed_by_rules(file: &[u8]) -> String {
+    match listing::play(file) {
         Err(bad) => bad_line(bad),
         Ok(listing) => text(&listing),
-    };
+    }
+}
+
+/// Compares what program rig prints, the whole `BAD` line or the listing.
+pub fn compare_program(file: &[u8]) -> Result<(), Box<Difference>> {
+    let rules = printed_by_rules(file);
     let said = match program::play(file) {
         Ok(printed) => text(&printed),
         Err(fault) => fault.to_string(),

@@ -89,8 +89,22 @@ fn likely_byte(random: &mut Random) -> u8 {
 
 fn replace_field(body: &mut Vec<u8>, random: &mut Random) {
     const FIELDS: [&[u8]; 16] = [
-        b"00", b"01", b"0", b"-1", b"10000000", b"9999999", b"ABCDEFGHIJKLM", b"ABCDEFGHIJKL", b"XX", b"BB", b"+5",
-        b"1000\t100", b"", b"3", b"N", b"65536",
+        b"00",
+        b"01",
+        b"0",
+        b"-1",
+        b"10000000",
+        b"9999999",
+        b"ABCDEFGHIJKLM",
+        b"ABCDEFGHIJKL",
+        b"XX",
+        b"BB",
+        b"+5",
+        b"1000\t100",
+        b"",
+        b"3",
+        b"N",
+        b"65536",
     ];
     let mut fields: Vec<Vec<u8>> = body.split(|&byte| byte == b' ').map(<[u8]>::to_vec).collect();
     let at = random.below(fields.len());

@@ -262,9 +262,7 @@ fn read_entry(fields: &mut Fields) -> Result<Entry, BadField> {
     let price = fields.number()?;
     let shares = fields.number()?;
     let terms = match kind {
-        Kind::Ilo => {
-            Some(Terms { kind_of_ilo: fields.kind_of_ilo()?, mtv: fields.number()?, mark: fields.mark()? })
-        }
+        Kind::Ilo => Some(Terms { kind_of_ilo: fields.kind_of_ilo()?, mtv: fields.number()?, mark: fields.mark()? }),
         _ => None,
     };
     Ok(Entry { label, kind, side, price, shares, terms })

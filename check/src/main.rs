@@ -1,9 +1,11 @@
 //! check --seed N --lawful COUNT --damaged COUNT
 //!
-//! Plays lawful and damaged session files, made from the seeds N, N + 1, and so on, on the proved
-//! library and by the literal rules, and compares. The last line is 'N passed, M failed'.
+//! Plays lawful and damaged session files made from the seeds N, N + 1, and so on, and the examples of
+//! the documents, on the proved library and by the literal rules, and compares. The last line is
+//! 'N passed, M failed'.
 
-use check::compare::{compare, compare_program, Difference};
+use check::compare::{compare, compare_program, printed_by_rules, Difference};
+use check::documents::{self, Example};
 use check::file::{pack, read};
 use check::library::Library;
 use check::make::Session;
@@ -48,7 +50,11 @@ fn main() -> ExitCode {
             run.damaged(seed + index, index % PROGRAM_EVERY == 0);
         }
     }
-    println!("check: seeds {seed} on, {lawful} lawful and {damaged} damaged, {} of them by program rig", run.by_program);
+    run.examples();
+    println!(
+        "check: from seed {seed} on {lawful} lawful and {damaged} damaged files, and examples; {} of all by program rig",
+        run.by_program
+    );
     println!("{}", run.tally);
     println!("{} passed, {} failed", run.passed, run.failed);
     if run.failed == 0 {
@@ -70,6 +76,33 @@ fn arguments() -> Option<(u64, u64, u64)> {
 }
 
 impl Run {
+    fn examples(&mut self) {
+        let sessions = documents::sessions().unwrap_or_default();
+        if sessions.is_empty() {
+            println!("there are no example sessions");
+            self.failed += 1;
+        }
+        for example in sessions.iter().chain(&documents::damaged()) {
+            self.example(example);
+        }
+    }
+
+    fn example(&mut self, example: &Example) {
+        let by_rules = printed_by_rules(&example.file).into_bytes() == example.printed;
+        match self.one(&example.file, true) {
+            None if by_rules => self.passed += 1,
+            None => {
+                self.failed += 1;
+                println!("{}: the rules print something else", example.name);
+            }
+            Some(difference) => {
+                self.failed += 1;
+                println!("{}: {}", example.name, difference.what);
+                print_both(&difference);
+            }
+        }
+    }
+
     fn lawful(&mut self, seed: u64, by_program: bool) {
         let (session, manner) = make::session(&mut Random::new(seed));
         self.tally.manner(manner);

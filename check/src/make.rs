@@ -303,7 +303,8 @@ impl Maker<'_> {
     }
 
     fn post(&mut self) -> String {
-        let market = if self.random.chance(2) { *self.random.pick(&[0, 17, 9_999_999]) } else { self.random.within(1, 16) };
+        let market =
+            if self.random.chance(2) { *self.random.pick(&[0, 17, 9_999_999]) } else { self.random.within(1, 16) };
         let is_bid = self.random.chance(50);
         let side = if is_bid { "B" } else { "S" };
         if self.random.chance(self.manner.removal_percent) {

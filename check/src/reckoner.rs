@@ -316,7 +316,8 @@ impl Reckoner {
         let next = self.orders.len() as u64 + 1;
         hold(arrival == next, || format!("arrival {arrival}, the next is {next}"))?;
         let shares = entry.shares;
-        let kept = Kept { entry: entry.clone(), remainder: shares, ranking_size: shares, filled: 0, routed: 0, cancelled: 0 };
+        let kept =
+            Kept { entry: entry.clone(), remainder: shares, ranking_size: shares, filled: 0, routed: 0, cancelled: 0 };
         self.orders.insert(arrival, kept);
         let held_back = mtv(entry) > 0 && self.volume(arrival) < mtv(entry);
         let mut rows = 0;

@@ -66,8 +66,12 @@ impl fmt::Display for Tally {
         }
         write!(out, "\n{} calls, {} fills, {} routes; ", self.calls, self.fills, self.routes)?;
         write!(out, "{} entries with an MTV traded nothing, ", self.held_back)?;
-        write!(out, "{} sweeps ended after a route, {} cuts took the order off; ", self.ended_after_route, self.cut_off)?;
-        write!(out, "at most {} rows of an entry and {} bytes of a listing\n", self.most_rows, self.longest_listing)?;
+        write!(
+            out,
+            "{} sweeps ended after a route, {} cuts took the order off; ",
+            self.ended_after_route, self.cut_off
+        )?;
+        writeln!(out, "at most {} rows of an entry and {} bytes of a listing", self.most_rows, self.longest_listing)?;
         write!(out, "answers:")?;
         for (number, count) in &self.refusals {
             write!(out, " {number}: {count};")?;
