@@ -35,6 +35,7 @@ use rules::types::Accepted;
 use rules::types::Kind;
 use rules::types::Order;
 use rules::types::Row;
+use shelf::empty;
 use shelf::put;
 
 // Whether both sides handed in have their 128 cells.
@@ -161,8 +162,8 @@ impl<R: Ranking + Copy> Book<R> {
         }
         Ok(Book {
             ranking,
-            bids: 0,
-            offers: 0,
+            bids: empty(bids),
+            offers: empty(offers),
             arrivals: 0,
         })
     }

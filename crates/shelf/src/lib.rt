@@ -48,6 +48,20 @@ pub trait Precedence<K> {
         ensures { λ r. ⌜ r ≡ ahead (now (self .entry)) (now (a .entry)) (now (b .entry)) ⌝ };
 }
 
+// The count of an empty shelf, whatever its cells hold.
+pub fn empty<T>(_cells: &[T]) -> usize
+    ensures { λ r. ⌜ r ≡ 0 ⌝ }
+{
+    0
+}
+
+// How many things stand on a shelf.
+pub fn count<T>(cells: &[T], used: usize) -> usize
+    ensures { λ r. ⌜ r ≡ length (take used (now (cells .entry))) ⌝ }
+{
+    used.min(cells.len())
+}
+
 // The place of the first thing that `x` is ahead of, or the end.
 fn place_for<T: Shelved, P: Precedence<T::Key>>(order: &P, standing: &[T], x: &T) -> usize
     ensures { λ r. ⌜ r ≡ first-at (λ y. ahead (now (order .entry)) (keyed (now (x .entry))) (keyed y)) (now (standing .entry)) ⌝ }
