@@ -8,15 +8,17 @@ use native.Mathlib.Numerals.{add-one}
 use native.Mathlib.Omega.{arith}
 use lib.Dec.{eqb}
 use lib.ListN.{getD, set, length}
+use Rattle.std.specs.Options.{isSome}
 use Rattle.std.specs.declared.option.Option.{Option}
 use Rattle.std.specs.declared.option.Option.the-variants.{Some, None}
 use Rattle.std.proofs.shelf.Lists.{getD-set-same, getD-set-other, getD-past}
-use Rattle.std.proofs.shelf.Tests.{cases-eq, eq-eqb, ne-eqb, cond-true, cond-false}
+use Rattle.std.proofs.shelf.Tests.{cases-eq, eq-eqb, ne-eqb, cond-true, cond-false, both-ways}
 use Rattle.std.proofs.shelf.Ways.{tells}
 use Rattle.market.specs.declared.types.Side.{Side}
 use Rattle.market.specs.declared.types.Side.the-variants.{Buy, Sell}
 use Rattle.board.specs.declared.types.Quote.{Quote}
-use Rattle.board.specs.Quotes.{Lawful, with-quote, quote-ok, market-ok}
+use Rattle.board.specs.declared.types.Best.{Best}
+use Rattle.board.specs.Quotes.{Lawful, with-quote, quote-ok, market-ok, better-of}
 use Rattle.board.specs.Plates.{plate-quotes, at-market, row-of}
 
 set-at : (xs : List (Option Quote)) (k : ℕ) (x : Option Quote) → k < length xs → (n : ℕ) → at-market (set xs k x) n ≡ cond (eqb (k + 1) n) x (at-market xs n)
@@ -68,3 +70,8 @@ plate-lawful bids offers lb lo b o = record { ranged = ranged; none = none } whe
   none : (s : Side) (m : ℕ) → market-ok m ≡ false → plate-quotes bids offers s m ≡ None
   none Buy m h = at-past bids m lb h
   none Sell m h = at-past offers m lo h
+
+-- a market without a quotation leaves the best so far
+pub none-passed : (s : Side) (x : Option Best) (m : ℕ) (q : Option Quote) → isSome q ≡ false → better-of s x m q ≡ x
+none-passed s x m None e = refl
+none-passed s x m (Some q) e = absurd (both-ways true e refl)

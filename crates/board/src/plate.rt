@@ -86,6 +86,10 @@ pub impl Board for Plate as PlateBoard {
         let row = self.row(side);
         let mut best = None;
         for i in 0..16usize {
+            // Most markets have none, and then the best so far need not be looked at.
+            if row[i].is_none() {
+                continue;
+            }
             best = better_of(side, best, i as u32 + 1, row[i]);
         }
         best

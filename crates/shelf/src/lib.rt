@@ -75,19 +75,14 @@ fn place_for<T: Shelved, P: Precedence<T::Key>>(order: &P, standing: &[T], x: &T
     standing.len()
 }
 
-// Makes room at a place and puts `x` there: the things from there on move back by one.
-fn insert_at<T: Copy>(cells: &mut [T], used: usize, at: usize, x: T)
+// Makes room at a place and puts a thing there: the things from there on move back by one.
+fn insert_at<T: Copy>(cells: &mut [T], used: usize, at: usize, thing: T)
     requires { ⌜ at ≤ used ⌝ ∗ ⌜ used < length (now cells) ⌝ }
-    ensures stands { λ _. ⌜ take (used + 1) (now (cells .exit)) ≡ inserted (take used (now (cells .entry))) at x ⌝ }
+    ensures stands { λ _. ⌜ take (used + 1) (now (cells .exit)) ≡ inserted (take used (now (cells .entry))) at thing ⌝ }
     ensures behind { λ _. ⌜ drop (used + 1) (now (cells .exit)) ≡ drop (used + 1) (now (cells .entry)) ⌝ }
 {
-    let mut carried = x;
-    for i in at..used {
-        let here = cells[i];
-        cells[i] = carried;
-        carried = here;
-    }
-    cells[used] = carried;
+    cells.copy_within(at..used, at + 1);
+    cells[at] = thing;
 }
 
 // Puts `x` before the first thing that it is ahead of, and answers the new count.
@@ -114,9 +109,7 @@ pub fn take_out<T: Copy>(cells: &mut [T], used: usize, at: usize) -> Result<usiz
     if at >= used || used > cells.len() {
         return Err(Absent);
     }
-    for i in at..used - 1 {
-        cells[i] = cells[i + 1];
-    }
+    cells.copy_within(at + 1..used, at);
     Ok(used - 1)
 }
 
