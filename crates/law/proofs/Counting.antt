@@ -41,6 +41,17 @@ count-differs g h k (suc n) l u e = elim (cases-eq k (suc n)) [
   | inr d ↦ let below = count-differs g h k n l (omega arith) e in let p = e (suc n) d in omega arith
 ]
 
+-- where the one that differs is 1 at most, the count grows by 1 at most
+pub count-one-more : (g h : ℕ → ℕ) (k n : ℕ) → g k ≤ 1 → ((j : ℕ) → (k ≡ j → ⊥) → g j ≡ h j) → count-upto g n ≤ suc (count-upto h n)
+count-one-more g h k zero l e = omega arith
+count-one-more g h k (suc n) l e = elim (cases-eq k (suc n)) [
+  | inl d ↦
+      let below = count-below g h k n (omega arith) e in
+      let p = ap g d in
+      omega arith
+  | inr d ↦ let below = count-one-more g h k n l e in let p = e (suc n) d in omega arith
+]
+
 -- the figures of a function that gives each its own
 pub sum-is : (F : ℕ → ℕ → Type 0) (g : ℕ → ℕ) → ((n : ℕ) → F n (g n)) → (n : ℕ) → Sum F n (count-upto g n)
 sum-is F g h zero = refl

@@ -4,7 +4,7 @@ use mathlib.Core.Path.{_≡_, refl, sym, ap, ap₂, subst, _∙_}
 use mathlib.Core.Bool.{true, false, cond, _&&_, not}
 use mathlib.Core.List.{List, [], _∷_}
 use mathlib.Core.Logic.{inl, inr}
-use Prim.Native.Nat.{ℕ, _+_, _-_, _≤_, _<_}
+use Prim.Native.Nat.{ℕ, suc, _+_, _-_, _≤_, _<_}
 use native.Mathlib.Omega.{arith}
 use lib.Dec.{eqb, leb}
 use lib.ListN.{length}
@@ -16,6 +16,7 @@ use Rattle.std.proofs.shelf.Elements.{all-weaker}
 use Rattle.market.specs.declared.types.Side.{Side}
 use Rattle.market.specs.Words.{opposite}
 use Rattle.shelf.specs.Standing.{put-in}
+use Rattle.shelf.proofs.Sorting.{length-put-in}
 use Rattle.rules.specs.declared.types.Order.{Order}
 use Rattle.rules.specs.declared.types.Row.{Row}
 use Rattle.rules.specs.declared.types.Row.the-variants.{Fill, Route}
@@ -26,9 +27,12 @@ use Rattle.rules.specs.Sweeps.{Swept, with-open, less, standing, swept, sweep, 
 use Rattle.rules.specs.Calls.{Market, terms, of-side, or-else, rests, own-after, entered, settled}
 use Rattle.law.specs.Tape.{Account, remainder-of, remainder, changed, change, added, reckon-row, reckon-rows}
 use Rattle.law.specs.Judge.{Sized, Measured, Fair-entry}
+use Rattle.law.specs.Holdings.{quoted, holdings}
 use Rattle.law.proofs.Branches.{by-test}
+use Rattle.law.proofs.Holding.{held-on, held-by-sides, resting-open}
 use Rattle.law.proofs.Finding.{found, found-tag, all-found, absent, found-put-in}
 use Rattle.law.proofs.Conditions.{arrival-of, Order-kept, Side-kept, Apart, living}
+use Rattle.law.proofs.Steps.{live, live-is, live-at-most, bulk}
 use Rattle.law.proofs.Sweeping.{Leaves-off, untraded, weight-at-most, whole-sweep}
 use Rattle.law.proofs.Volumes.{volume-is}
 use Rattle.law.proofs.Markets.{or-none, found-in, Kept, Matches, found-made, kept-made, quotes-made, arrivals-made, side-put, side-later, stand-sound, stand-agrees}
@@ -89,6 +93,14 @@ module _ (ranking : Ranking) (law : Ranks ranking) (m : Market) (a : Account) (k
       let w = weight-at-most ranking law (m .arrivals) start ok in
       let f = whole .few in
       cond-both (leb (mtv-of (i .kind)) volume-before) (sweep 144 start) (swept [] start) (λ x. length (x .rows) ≤ 144) (λ _. omega arith) (λ _. omega arith)
+
+  -- the rows, and what is left to trade with, of what there was
+  counted : (length (done .rows) + bulk end ≤ bulk start) × (quoted (end .quotes) (i .side) 16 ≡ quoted (m .quotes) (i .side) 16)
+  unfolding measured-sweep
+  counted =
+      let whole = whole-sweep ranking law (m .arrivals) start (added i a) (stand-sound ranking m a k h i new) (stand-agrees ranking m a k h i new) in
+      cond-both (leb (mtv-of (i .kind)) volume-before) (sweep 144 start) (swept [] start) (λ x. (length (x .rows) + bulk (x .stand) ≤ bulk start) × (quoted (x .stand .quotes) (i .side) 16 ≡ quoted (m .quotes) (i .side) 16))
+      (λ _. (whole .uses-up, whole .own-quoted)) (λ _. (omega arith, refl))
 
   -- what the sweep left of the entry
   abbrev left : Order
@@ -209,3 +221,24 @@ module _ (ranking : Ranking) (law : Ranks ranking) (m : Market) (a : Account) (k
         quotes = off .agrees .quotes ∙ sym (quotes-made own-then (end .opp) (end .quotes) (left .arrival) still-apart (left .side));
         accepted = omega arith;
       }
+
+  -- the rows of an entry, and what is held after it, are at most one more than what was held
+  pub entered-counted : length (done .rows) + holdings (settled (terms ranking) done .market) ≤ suc (holdings m)
+  entered-counted =
+      let side = ap (λ (o : Order). o .side) (off .same) in
+      let own = ap length (off .own) in
+      let held = held-by-sides (left .side) (own-after ranking left (end .own)) (end .opp) (end .quotes) (left .arrival) in
+      let was = held-on (i .side) m in
+      let across-same = ap (λ t. quoted (end .quotes) (opposite t) 16) side in
+      let own-same = ap (λ t. quoted (end .quotes) t 16) side in
+      let used = counted .0 in
+      let kept = counted .1 in
+      let one = live-at-most i in
+      let longer : length (own-after ranking left (end .own)) ≤ length (end .own) + live left =
+      cond-both (rests left) (put-in (before ranking (left .side)) left (end .own)) (end .own) (λ os. length os ≤ length (end .own) + live left)
+      (λ t.
+      let p = length-put-in (before ranking (left .side)) left (end .own) in
+      let l = live-is left (resting-open left t) in
+      omega arith)
+      (λ _. omega arith) in
+      omega arith

@@ -2,6 +2,7 @@ mod Branches
 mod Finding
 mod Counting
 mod Quotations
+mod Holding
 mod Conditions
 mod Steps
 mod Sweeping
@@ -14,4 +15,5 @@ mod Lights
 pub mod Tapes
 mod Objecting
 mod Shares
+mod Rows
 mod Deciding

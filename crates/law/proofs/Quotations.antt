@@ -8,23 +8,26 @@ use native.Mathlib.Omega.{arith}
 use lib.Dec.{eqb, ltb, leb}
 use Rattle.std.specs.declared.option.Option.{Option}
 use Rattle.std.specs.declared.option.Option.the-variants.{Some, None}
+use Rattle.std.specs.declared.result.Result.{Result}
 use Rattle.std.specs.declared.result.Result.the-variants.{Ok, Err}
 use Rattle.std.specs.Orderings.{Decides}
 use Rattle.std.proofs.shelf.Ways.{tells, decides-ltb}
 use Rattle.std.proofs.shelf.Tests.{cases-bool, cond-both, cond-true, cond-false, and-from, and-parts, and-right, eq-eqb, ne-eqb, eqb-true, both-ways}
 use Rattle.market.specs.declared.types.Side.{Side}
 use Rattle.market.specs.declared.types.Side.the-variants.{Buy, Sell}
+use Rattle.market.specs.declared.types.Refusal.{Refusal}
 use Rattle.market.specs.declared.types.Refusal.the-variants.{MarketNumber, Take}
-use Rattle.market.specs.Words.{same-side, better}
+use Rattle.market.specs.Words.{same-side, better, opposite}
 use Rattle.board.specs.declared.types.Quote.{Quote}
 use Rattle.board.specs.declared.types.Best.{Best}
-use Rattle.board.specs.Quotes.{Quotes, Lawful, market-ok, quote-ok, with-quote, lowered, shares-of, if-ok, best-in}
+use Rattle.board.specs.Quotes.{Quotes, Lawful, market-ok, quote-ok, with-quote, lowered, shares-of, if-ok, take-answer, best-in}
 use Rattle.board.proofs.Bests.{IsBest, best-none, best-some}
 use Rattle.rules.specs.Trading.{no-better}
 use Rattle.rules.specs.Sweeps.{taken}
-use Rattle.law.specs.Judge.{Better, Not-better, None-better, count-upto}
+use Rattle.law.specs.Judge.{Better, Not-better, None-better}
+use Rattle.law.specs.Holdings.{one-if, quoted}
 use Rattle.law.proofs.Branches.{by-test, by-option, none-some}
-use Rattle.law.proofs.Counting.{count-differs, count-at-most}
+use Rattle.law.proofs.Counting.{count-same, count-differs, count-at-most, count-one-more}
 
 pub decides-better : (s : Side) (a b : ℕ) → Decides (better s a b) (Better s a b)
 decides-better Buy a b = decides-ltb b a
@@ -119,22 +122,17 @@ module _ (b : Quotes) (l : Lawful b) where
       ∙ ap (λ x. if-ok (cond x (Ok tt) (Err Take)) (with-quote b s m (lowered (b s m) n)) b) enough
 
 -- How many quotations a side has.
-abbrev pub one-if : Option Quote → ℕ
-one-if None = 0
-one-if (Some q) = 1
-
-abbrev pub quoted : Quotes → Side → ℕ → ℕ
-quoted b s = count-upto (λ m. one-if (b s m))
+pub one-at-most : (q : Option Quote) → one-if q ≤ 1
+one-at-most None = omega arith
+one-at-most (Some q) = omega arith
 
 pub quoted-at-most : (b : Quotes) (s : Side) (n : ℕ) → quoted b s n ≤ n
-quoted-at-most b s n = count-at-most (λ m. one-if (b s m)) n (λ k. small (b s k))
-  where
-    small : (q : Option Quote) → one-if q ≤ 1
-    small None = omega arith
-    small (Some q) = omega arith
+unfolding quoted
+quoted-at-most b s n = count-at-most (λ m. one-if (b s m)) n (λ k. one-at-most (b s k))
 
 -- one fewer where all its shares are taken
 pub quoted-taken : (b : Quotes) → Lawful b → (s : Side) (m n : ℕ) (q : Quote) → b s m ≡ Some q → 1 ≤ n → n ≡ q .shares → suc (quoted (taken b s m n) s 16) ≡ quoted b s 16
+unfolding quoted
 quoted-taken b l s m n q e low all =
     let w = quoted-market b l s m q e in
     let c : Quotes = with-quote b s m (lowered (b s m) n) in
@@ -144,3 +142,35 @@ quoted-taken b l s m n q e low all =
     let one-there = ap one-if e in
     let differs = count-differs (λ k. one-if (c s k)) (λ k. one-if (b s k)) m 16 (w .0) (w .1) (λ j d. ap one-if (cond-false (same-side s s && eqb m j) (lowered (b s m) n) (b s j) (and-right (same-side s s) (eqb m j) (ne-eqb m j d)))) in
     subst (λ (x : Quotes). suc (quoted x s 16) ≡ quoted b s 16) (sym (taken-is b l s m n q e low (omega arith))) (omega arith)
+
+-- a take adds none
+pub quoted-lowered : (b : Quotes) → Lawful b → (s : Side) (m n : ℕ) (q : Quote) → b s m ≡ Some q → 1 ≤ n → n ≤ q .shares → quoted (taken b s m n) s 16 ≤ quoted b s 16
+unfolding quoted
+quoted-lowered b l s m n q e low high =
+    let w = quoted-market b l s m q e in
+    let c : Quotes = with-quote b s m (lowered (b s m) n) in
+    let one-there = ap one-if e in
+    let at-most = one-at-most (c s m) in
+    let differs = count-differs (λ k. one-if (c s k)) (λ k. one-if (b s k)) m 16 (w .0) (w .1) (λ j d. ap one-if (cond-false (same-side s s && eqb m j) (lowered (b s m) n) (b s j) (and-right (same-side s s) (eqb m j) (ne-eqb m j d)))) in
+    subst (λ (x : Quotes). quoted x s 16 ≤ quoted b s 16) (sym (taken-is b l s m n q e low high)) (omega arith)
+
+-- a quotation that stands instead of another adds one at most
+pub quoted-put : (b : Quotes) (s : Side) (m : ℕ) (x : Option Quote) → quoted (with-quote b s m x) s 16 ≤ suc (quoted b s 16)
+unfolding quoted
+quoted-put b s m x = count-one-more (λ k. one-if (with-quote b s m x s k)) (λ k. one-if (b s k)) m 16 (one-at-most (with-quote b s m x s m)) (λ j d. ap one-if (cond-false (same-side s s && eqb m j) x (b s j) (and-right (same-side s s) (eqb m j) (ne-eqb m j d))))
+
+-- and leaves those of the other side
+untouched : (b : Quotes) (s : Side) (m : ℕ) (x : Option Quote) (k : ℕ) → with-quote b s m x (opposite s) k ≡ b (opposite s) k
+untouched b Buy m x k = refl
+untouched b Sell m x k = refl
+
+pub quoted-beside : (b : Quotes) (s : Side) (m : ℕ) (x : Option Quote) → quoted (with-quote b s m x) (opposite s) 16 ≡ quoted b (opposite s) 16
+unfolding quoted
+quoted-beside b s m x = count-same (λ k. one-if (with-quote b s m x (opposite s) k)) (λ k. one-if (b (opposite s) k)) 16 (λ k. ap one-if (untouched b s m x k))
+
+pub quoted-other : (b : Quotes) (s : Side) (m n : ℕ) → quoted (taken b s m n) (opposite s) 16 ≡ quoted b (opposite s) 16
+quoted-other b s m n = by-answer (take-answer m (b s m) n)
+  where
+    by-answer : (r : Result Unit Refusal) → quoted (if-ok r (with-quote b s m (lowered (b s m) n)) b) (opposite s) 16 ≡ quoted b (opposite s) 16
+    by-answer (Ok u) = quoted-beside b s m (lowered (b s m) n)
+    by-answer (Err e) = refl

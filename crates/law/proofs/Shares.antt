@@ -169,7 +169,7 @@ module _ (ranking : Ranking) (m : Market) (a : Account) (h : Matches a m) where
   others (call.Post number side price shares) (Ok w) rows f n d = subst (λ rs. remainder a n ≡ remainder a n + filled-of n rs) (sym (f .2)) (omega arith)
 
 -- a statement that holds of every kept and matched market holds at every call
-everywhere : (Holds : Market → Call → Outcome → Type 0)
+pub everywhere : (Holds : Market → Call → Outcome → Type 0)
     → ((ranking : Ranking) → Ranks ranking → (m : Market) (a : Account) → Kept ranking m → Matches a m → (c : Call) (room : ℕ) → Good ranking a c room (apply (terms ranking) m c room) → Holds m c (apply (terms ranking) m c room))
     → At-every-call Holds
 everywhere Holds each ranking law b l cs c room =

@@ -4,7 +4,7 @@ use mathlib.Core.Path.{_≡_, refl, sym, ap, subst, _∙_}
 use mathlib.Core.Bool.{true, false, cond, _&&_, not}
 use mathlib.Core.List.{List}
 use mathlib.Core.Logic.{_⊎_, inl, inr}
-use Prim.Native.Nat.{ℕ, _+_, _-_, _≤_, _<_, min}
+use Prim.Native.Nat.{ℕ, suc, _+_, _-_, _≤_, _<_, min}
 use native.Mathlib.Omega.{arith}
 use lib.Dec.{eqb, leb}
 use lib.ListN.{length, set}
@@ -32,7 +32,8 @@ use Rattle.law.specs.Judge.{None-better, Rests, May-trade, In-turn, Fair-row, 
 use Rattle.rules.proofs.Precedences.{orders-total}
 use Rattle.law.proofs.Branches.{by-test, by-option, some-is, none-some, never-some}
 use Rattle.law.proofs.Finding.{first-passes, first-none, first-nth, first-least, found, all-found, all-nth, nth-found, edited, found-edited, all-edited, pairwise-edited, length-removed, length-edited}
-use Rattle.law.proofs.Quotations.{decides-better, best-is, best-unbeaten, best-lowest, none-quoted, quoted-shares, taken-lawful, quoted, quoted-taken}
+use Rattle.law.specs.Holdings.{quoted}
+use Rattle.law.proofs.Quotations.{decides-better, best-is, best-unbeaten, best-lowest, none-quoted, quoted-shares, taken-lawful, quoted-taken, quoted-lowered, quoted-other}
 use Rattle.law.proofs.Conditions.{arrival-of, Order-kept, Side-kept, Sound, Agrees, living, rests-across, not-own, decides-may-trade}
 
 -- the side that the incoming order trades with
@@ -65,6 +66,19 @@ next-none s e =
 -- What is left to trade with: nothing where q is 0, and else the orders and the quotations of the other side.
 abbrev pub weight : Stand → ℕ
 weight s = cond (eqb (s .incoming .«open») 0) 0 (length (s .opp) + quoted (s .quotes) (across s) 16)
+
+-- what a row uses up: the orders and quotations across, and what is left of the incoming order as one
+abbrev pub live : Order → ℕ
+live o = cond (eqb (o .«open») 0) 0 1
+
+abbrev pub bulk : Stand → ℕ
+bulk s = (length (s .opp) + quoted (s .quotes) (across s) 16) + live (s .incoming)
+
+pub live-is : (o : Order) → 0 < o .«open» → live o ≡ 1
+live-is o h = cond-false _ _ _ (ne-eqb (o .«open») 0 (λ e. omega arith))
+
+pub live-at-most : (o : Order) → live o ≤ 1
+live-at-most o = cond-both (eqb (o .«open») 0) 0 1 (λ v. v ≤ 1) (λ _. omega arith) (λ _. omega arith)
 
 weight-is : (s : Stand) → 0 < s .incoming .«open» → weight s ≡ length (s .opp) + quoted (s .quotes) (across s) 16
 weight-is s h = cond-false _ _ _ (ne-eqb (s .incoming .«open») 0 (λ e. omega arith))
@@ -127,6 +141,10 @@ side-filled ranking t n os c k w e =
       room = let l = length-edited os j o (left k o) e in let r = w .room in omega arith;
     })
 
+twice-opposite : (s : Side) → opposite (opposite s) ≡ s
+twice-opposite Buy = refl
+twice-opposite Sell = refl
+
 both-sides : (P : Side → Type 0) (s : Side) → P s → P (opposite s) → (t : Side) → P t
 both-sides P Buy p q Buy = p
 both-sides P Buy p q Sell = q
@@ -139,6 +157,8 @@ pub record Stepped (ranking : Ranking) (n : ℕ) (s : Stand) (a : Account) (t : 
   pub sound : Sound ranking n (t .stand)
   pub agrees : Agrees (reckon-row (t .row) a) (t .stand)
   pub lighter : weight (t .stand) < weight s
+  pub uses-up : suc (bulk (t .stand)) ≤ bulk s
+  pub own-quoted : quoted (t .stand .quotes) (s .incoming .side) 16 ≡ quoted (s .quotes) (s .incoming .side) 16
   pub same : t .stand .incoming ≡ with-open (t .stand .incoming .«open») (s .incoming)
   pub falls : t .stand .incoming .«open» ≤ s .incoming .«open»
   pub own : t .stand .own ≡ s .own
@@ -244,6 +264,8 @@ module _ (ranking : Ranking) (law : Ranks ranking) (n : ℕ) (s : Stand) (a : Ac
         quotes = ag .quotes;
       };
       lighter = lighter;
+      uses-up = uses-up;
+      own-quoted = refl;
       same = refl;
       falls = omega arith;
       own = refl;
@@ -282,6 +304,19 @@ module _ (ranking : Ranking) (law : Ranks ranking) (n : ℕ) (s : Stand) (a : Ac
             let shorter = length-removed (s .opp) (c .place) o placed in
             let remains = rests .remains in
             cond-both (eqb (s .incoming .«open» - k) 0) 0 (length (filled (s .opp) c k) + quoted (s .quotes) (across s) 16) (λ v. v < weight s)
+            (λ _. omega arith)
+            (λ f.
+            let some = eqb-false (s .incoming .«open» - k) 0 f in
+            let gone : filled (s .opp) c k ≡ removed (s .opp) (c .place) = cond-true _ _ _ (le-leb (o .«open») k (omega arith)) in
+            let l = ap length gone in
+            omega arith)
+
+        uses-up : suc (bulk (fill s c .stand)) ≤ bulk s
+        uses-up =
+            let was = live-is (s .incoming) q in
+            let shorter = length-removed (s .opp) (c .place) o placed in
+            let edited : length (filled (s .opp) c k) ≤ length (s .opp) = subst (λ os. length os ≤ length (s .opp)) (sym (filled-is (s .opp) c k)) (length-edited (s .opp) (c .place) o (left k o) placed) in
+            cond-both (eqb (s .incoming .«open» - k) 0) 0 1 (λ v. suc ((length (filled (s .opp) c k) + quoted (s .quotes) (across s) 16) + v) ≤ bulk s)
             (λ _. omega arith)
             (λ f.
             let some = eqb-false (s .incoming .«open» - k) 0 f in
@@ -333,6 +368,8 @@ module _ (ranking : Ranking) (law : Ranks ranking) (n : ℕ) (s : Stand) (a : Ac
         quotes = ap (λ x. routed x (a .quotes) (b .market) k) (ag .incoming) ∙ ap (λ x. taken x (across s) (b .market) k) (ag .quotes);
       };
       lighter = lighter;
+      uses-up = uses-up;
+      own-quoted = subst (λ t. quoted (taken (s .quotes) (across s) (b .market) k) t 16 ≡ quoted (s .quotes) t 16) (twice-opposite (s .incoming .side)) (quoted-other (s .quotes) (across s) (b .market) k);
       same = refl;
       falls = omega arith;
       own = refl;
@@ -360,6 +397,18 @@ module _ (ranking : Ranking) (law : Ranks ranking) (n : ℕ) (s : Stand) (a : Ac
             let shorter = length-removed (s .opp) (c .place) o placed in
             let h = some in
             cond-both (eqb (s .incoming .«open» - k) 0) 0 (length (s .opp) + quoted (taken (s .quotes) (across s) (b .market) k) (across s) 16) (λ v. v < weight s)
+            (λ _. omega arith)
+            (λ f.
+            let left-open = eqb-false (s .incoming .«open» - k) 0 f in
+            let one = quoted-taken (s .quotes) (ok .quotes) (across s) (b .market) k (b .quote) stands (omega arith) (omega arith) in
+            omega arith)
+
+        uses-up : suc (bulk (route s b .stand)) ≤ bulk s
+        uses-up =
+            let was = live-is (s .incoming) q in
+            let h = some in
+            let fewer = quoted-lowered (s .quotes) (ok .quotes) (across s) (b .market) k (b .quote) stands (omega arith) (omega arith) in
+            cond-both (eqb (s .incoming .«open» - k) 0) 0 1 (λ v. suc ((length (s .opp) + quoted (taken (s .quotes) (across s) (b .market) k) (across s) 16) + v) ≤ bulk s)
             (λ _. omega arith)
             (λ f.
             let left-open = eqb-false (s .incoming .«open» - k) 0 f in

@@ -16,9 +16,10 @@ use Rattle.rules.specs.Sweeps.{Swept, with-open, swept, rows-before, next, swee
 use Rattle.law.specs.Tape.{Account, reckon-row, reckon-rows}
 use Rattle.law.specs.Judge.{Fair-sweep}
 use Rattle.law.proofs.Branches.{by-option}
-use Rattle.law.proofs.Quotations.{quoted, quoted-at-most}
+use Rattle.law.specs.Holdings.{quoted}
+use Rattle.law.proofs.Quotations.{quoted-at-most}
 use Rattle.law.proofs.Conditions.{Sound, Agrees}
-use Rattle.law.proofs.Steps.{weight, weightless, none-ended, step}
+use Rattle.law.proofs.Steps.{weight, bulk, weightless, none-ended, step}
 
 -- What a sweep leaves: the incoming order but for its open shares, which have not grown, and its own side as it was.
 pub record Leaves-off (ranking : Ranking) (n : ℕ) (s : Stand) (a : Account) (w : Swept) : Type 0 where
@@ -35,6 +36,8 @@ pub record Fairly-swept (ranking : Ranking) (n : ℕ) (s : Stand) (a : Account) 
   pub fair : Fair-sweep ranking (s .incoming .arrival) a (w .rows)
   pub leaves-off : Leaves-off ranking n s a w
   pub few : length (w .rows) ≤ weight s
+  pub uses-up : length (w .rows) + bulk (w .stand) ≤ bulk s
+  pub own-quoted : quoted (w .stand .quotes) (s .incoming .side) 16 ≡ quoted (s .quotes) (s .incoming .side) 16
 
 module _ (ranking : Ranking) (law : Ranks ranking) (n : ℕ) where
   -- as many steps as there is left to trade with bring a sweep to its end
@@ -44,10 +47,12 @@ module _ (ranking : Ranking) (law : Ranks ranking) (n : ℕ) where
     fair = none-ended ranking law n s a ok ag (weightless s h);
     leaves-off = untraded ranking n s a ok ag;
     few = omega arith;
+    uses-up = omega arith;
+    own-quoted = refl;
   }
   sweep-fair (suc k) s a ok ag h =
       by-option (next s) (λ x. next s ≡ x → Fairly-swept ranking n s a (elim x [ None ↦ swept [] s | Some t ↦ rows-before (t .row ∷ []) (sweep k (t .stand)) ]))
-      (λ _ e. record { fair = none-ended ranking law n s a ok ag e; leaves-off = untraded ranking n s a ok ag; few = omega arith })
+      (λ _ e. record { fair = none-ended ranking law n s a ok ag e; leaves-off = untraded ranking n s a ok ag; few = omega arith; uses-up = omega arith; own-quoted = refl })
       (λ t _ e.
       let st = step ranking law n s a ok ag t e in
       let lighter = st .lighter in
@@ -66,6 +71,8 @@ module _ (ranking : Ranking) (law : Ranks ranking) (n : ℕ) where
           own = off .own ∙ st .own;
         };
         few = omega arith;
+        uses-up = let u = st .uses-up in let v = rest .uses-up in omega arith;
+        own-quoted = subst (λ x. quoted (sweep k (t .stand) .stand .quotes) x 16 ≡ quoted (t .stand .quotes) x 16) (ap (λ (o : Order). o .side) (st .same)) (rest .own-quoted) ∙ st .own-quoted;
       }) refl
 
   -- 128 orders and 16 quotations are used up in 144 steps

@@ -18,7 +18,7 @@ use Rattle.std.proofs.shelf.Tests.{cases-bool, cases-lt, cond-both, cond-true, 
 use Rattle.market.specs.declared.types.Side.{Side}
 use Rattle.market.specs.declared.types.Side.the-variants.{Buy, Sell}
 use Rattle.market.specs.declared.types.Refusal.{Refusal}
-use Rattle.market.specs.declared.types.Refusal.the-variants.{Price, Shares, SmallOlo, SmallIlo, LargeMtv, SideFull, ArrivalsSpent, ShortReport, NotResting, MarketNumber, Quotation, SideCells}
+use Rattle.market.specs.declared.types.Refusal.the-variants.{Price, Shares, SmallOlo, SmallIlo, LargeMtv, SideFull, ArrivalsSpent, ShortReport, NotResting, MarketNumber, Quotation}
 use Rattle.market.specs.Words.{in-range, opposite}
 use Rattle.shelf.specs.Standing.{nth, put-in}
 use Rattle.board.specs.Quotes.{Quotes, Lawful, market-ok, quote-ok, removes, posted, with-quote, if-ok}
@@ -33,7 +33,7 @@ use Rattle.rules.specs.declared.types.Accepted.{Accepted}
 use Rattle.rules.specs.Orders.{is-olo, is-ilo, cancels, too-small}
 use Rattle.rules.specs.Rankings.{Ranking, Ranks, before}
 use Rattle.rules.specs.Sweeps.{less, standing, measured-sweep}
-use Rattle.rules.specs.Calls.{Market, market, fresh, terms, of-side, with-side, Outcome, outcome, accepted, decided, cells-ok, cells-refusal, new-order, arriving, enter-refusal, entered, settled, enter, at-rest, open-of, cancel-refusal, cut-refusal, leaves, cut-down, taken-off, moved, cancelled, cut-stayed, cut-to, cancel, cut, post-accepted, post, apply, lit}
+use Rattle.rules.specs.Calls.{Market, market, fresh, terms, of-side, with-side, Outcome, outcome, accepted, decided, new-order, arriving, enter-refusal, entered, settled, enter, at-rest, open-of, cancel-refusal, cut-refusal, leaves, cut-down, taken-off, moved, cancelled, cut-stayed, cut-to, cancel, cut, post-accepted, post, apply, lit}
 use Rattle.law.specs.Tape.{Account, empty-account, remainder-of, remainder, changed, change, added, reckon-rows, cut-by, reckon-call, reckon}
 use Rattle.law.specs.Judge.{First-case, Cases, Outside, Too-small, resting-on, refusal-of, Sized, Fair-entry, Fair-call, Judged}
 use Rattle.law.specs.Law.{entry, after, tape, Fair-tape, Tape-law, Tape-goes-on, Upholds}

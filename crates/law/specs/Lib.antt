@@ -4,4 +4,5 @@ pub mod Law
 pub mod Known
 pub mod Objections
 pub mod Keeping
+pub mod Holdings
 pub mod Verdicts

@@ -2,6 +2,7 @@
 // theorem. The answer itself says nothing.
 ghost use mathlib.Core.Path.{_≡_};
 ghost use mathlib.Core.Bool.{true};
+ghost use Rattle.law.specs.Holdings.{Rows-counted, Tape-counted};
 ghost use Rattle.law.specs.Keeping.{Shares-kept, Fills-kept, Rows-fit, Sides-fit};
 ghost use Rattle.law.specs.Known.{Known};
 ghost use Rattle.law.specs.Law.{Tape-law, Tape-goes-on};
@@ -68,6 +69,20 @@ pub fn rows_fit() -> u8
 // No call leaves more than 128 orders on a side.
 pub fn sides_fit() -> u8
     ensures { λ _. ⌜ Sides-fit ⌝ }
+{
+    0
+}
+
+// A call's rows, and the orders and quotations held after it, are at most one more than those held before.
+pub fn rows_counted() -> u8
+    ensures { λ _. ⌜ Rows-counted ⌝ }
+{
+    0
+}
+
+// All rows of a tape are at most its calls and the quotations of its start.
+pub fn tape_counted() -> u8
+    ensures { λ _. ⌜ Tape-counted ⌝ }
 {
     0
 }
