@@ -1,6 +1,8 @@
 // The board of away quotations: for each side and each market 1 to 16, nothing or one protected
 // quotation. A renter may bring a board of his own, and everything above is proved for each that
 // keeps this contract.
+#![tactic(auto)]
+
 ghost use Rattle.std.specs.Prelude.{◌≡◌};
 ghost use Rattle.board.specs.Quotes.{Quotes, Lawful, with_quote, post_answer, posted, if_ok, take_answer, lowered, best_in};
 

@@ -1,4 +1,6 @@
 // The book of one security: who may trade, the sweep, and the calls.
+#![tactic(auto)]
+
 mod applying;
 mod asking;
 pub mod book;

@@ -1,4 +1,6 @@
 // Session files: reading one, and packing one of lines of text.
+#![tactic(auto)]
+
 mod bodies;
 mod contents;
 mod fields;

@@ -1,5 +1,7 @@
 // Theorems about the rules, each as the contract of a function: calling one hands its caller the
 // theorem. The answer itself says nothing.
+#![tactic(auto)]
+
 ghost use Rattle.std.specs.Prelude.{◌≡◌, true};
 ghost use Rattle.law.specs.Holdings.{RowsCounted, TapeCounted};
 ghost use Rattle.law.specs.Keeping.{SharesKept, FillsKept, RowsFit, SidesFit};

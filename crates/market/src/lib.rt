@@ -1,5 +1,7 @@
 // The words that every other crate shares: the two sides of a market, the ranges of prices and
 // shares, and the reasons for which a call is sent back.
+#![tactic(auto)]
+
 ghost use Rattle.std.specs.Prelude.{◌≡◌};
 ghost use Rattle.market.specs.Words.{opposite, better, in_range};
 ghost use Rattle.market.specs.Refusals.{number_of, index_of, place_of};

@@ -1,4 +1,6 @@
 // Packs lines of text from standard input, one body a line, into a session file on standard output.
+#![tactic(auto)]
+
 use files::input::{INPUT_BYTES, read_input};
 use files::pack::pack;
 use files::types::PackError;

@@ -1,5 +1,7 @@
 // Plays the session file on standard input, over size-time and a board without a quotation, and
 // prints its listing, or the line of the refusal.
+#![tactic(auto)]
+
 use files::input::{INPUT_BYTES, read_input};
 use session::running::{LISTING_BYTES, print_session};
 use std::io::Write;

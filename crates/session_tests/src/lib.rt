@@ -1,4 +1,6 @@
 // Tests of whole sessions and of the book's calls on examples.
+#![tactic(auto)]
+
 #[cfg(test)]
 mod calls;
 #[cfg(test)]

@@ -1,6 +1,8 @@
 // One shelf for every kind of thing that stands in an order: a count beside a lent slice of
 // cells. What stands on it is `take used cells`, first to last; the cells behind hold nothing.
 // Readers are handed the standing part of the slice, and only the writers here touch the cells.
+#![tactic(auto)]
+
 ghost use Rattle.std.specs.Prelude.{◌≡◌, ℕ, ◌+◌, ◌-◌, ◌<◌, ◌≤◌, Bool, ◌⊎◌, length, take, drop, None, Ok, Err, nat_eq, slice_set};
 ghost use Rattle.std.specs.List.{insert, remove};
 ghost use Rattle.shelf.specs.Order.{Total};
@@ -55,7 +57,7 @@ pub fn count<T>(cells: &[T], used: usize) -> usize
 
 // The place of the first thing that `x` is ahead of, or the end.
 fn place_for<T: Shelved, P: Precedence<T::Key>>(order: &P, standing: &[T], x: &T) -> usize
-    ensures { result ≡ first_at (λ y. ahead order.now (keyed x.now) (keyed y)) standing.now }
+    ensures { result ≡ first_at (λ y. P.ahead order.now (T.keyed x.now) (T.keyed y)) standing.now }
 {
     let key = x.key();
     for i in 0..standing.len() {
@@ -83,7 +85,7 @@ pub fn put<T: Shelved, P: Precedence<T::Key>>(
     used: usize,
     x: T,
 ) -> Result<usize, Full>
-    ensures { elim result [ Ok n ↦ (n ≡ used + 1) × (n ≤ length cells.old) × (take n cells.new ≡ put_in (λ a b. ahead order.now (keyed a) (keyed b)) x (take used cells.old)) × (drop n cells.new ≡ drop n cells.old) | Err e ↦ (cells.new ≡ cells.old) × (length cells.old ≤ used) ] }
+    ensures { elim result [ Ok n ↦ (n ≡ used + 1) × (n ≤ length cells.old) × (take n cells.new ≡ put_in (λ a b. P.ahead order.now (T.keyed a) (T.keyed b)) x (take used cells.old)) × (drop n cells.new ≡ drop n cells.old) | Err e ↦ (cells.new ≡ cells.old) × (length cells.old ≤ used) ] }
 {
     if used >= cells.len() {
         return Err(Full);
@@ -127,7 +129,7 @@ pub fn read<T: Copy>(standing: &[T], at: usize) -> Option<T>
 
 // The first thing of a tag, with its place.
 pub fn find<T: Shelved>(standing: &[T], tag: u32) -> Option<Placed<T>>
-    ensures { result ≡ first (λ y. nat_eq (tagged y) tag) standing.now 0 }
+    ensures { result ≡ first (λ y. nat_eq (T.tagged y) tag) standing.now 0 }
 {
     for place in 0..standing.len() {
         let item = standing[place];

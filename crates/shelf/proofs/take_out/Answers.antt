@@ -6,4 +6,4 @@ pub returns : goal.returns
 returns g c =
     let h : c.args.at < c.args.used = omega arith in
     let l : c.args.used ≤ length c.args.cells.now = omega arith in
-    (omega arith, h, l, removed_stands _ _ _ _ h l c.copy-within.ensures.after, removed_behind _ _ _ _ h l c.copy-within.ensures.after)
+    (omega arith, h, l, removed_stands _ _ _ _ h l c.copy_within.ensures.after, removed_behind _ _ _ _ h l c.copy_within.ensures.after)

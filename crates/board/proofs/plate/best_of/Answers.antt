@@ -16,12 +16,12 @@ pub returns : goal.returns
 unfolding best_in
 returns c = let e : c.loop-i.i ≡ 16 = omega arith in rw e at c.loop-i.invariant
 
-pub loop-i-preserved-then-is-none : goal.loop-i-preserved-then-is-none
-loop-i-preserved-then-is-none c =
+pub loop-i-preserved-then-is_none : goal.loop-i-preserved-then-is_none
+loop-i-preserved-then-is_none c =
     let b : Quotes = λ _. at_market c.args.row.now in
     let i = c.loop-i.i in
     let a : best_upto b c.args.side (i + 1) ≡ better_of c.args.side (best_upto b c.args.side i) (i + 1) (b c.args.side (i + 1)) = rw add-one refl in
     let r = at_row c.args.row.now i in
-    let n = none_passed c.args.side (best_upto b c.args.side i) (i + 1) (get_or c.args.row.now i None) c.if-is-none.ensures in
+    let n = none_passed c.args.side (best_upto b c.args.side i) (i + 1) (get_or c.args.row.now i None) c.if-is_none.ensures in
     let v = c.loop-i.invariant in
     cc

@@ -12,7 +12,7 @@ returns-in-Some c =
 
 pub returns : goal.returns
 returns c =
-    let e = c.in-default.ensures in
+    let e = c.in_default.ensures in
     let f = c.in-Some-find.ensures in
     let h = first_within _ c.args.offers.now 0 _ f in
     record { value = ap (on_side Sell) f ∙ ap (λ r. or_else (on_side Buy r) (on_side Sell (of_arrival c.args.arrival c.args.offers.now))) e; within = omega arith }

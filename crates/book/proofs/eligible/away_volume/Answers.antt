@@ -12,15 +12,15 @@ loop-i-preserved g c =
       search rules,
     )
 
-pub returns-then-not-is-type2 : goal.returns-then-not-is-type2
+pub returns-then-not-is_type2 : goal.returns-then-not-is_type2
 unfolding away_volume
-returns-then-not-is-type2 g c =
+returns-then-not-is_type2 g c =
     let n = away_upto c.args.incoming.now (g.B.Board.quotes c.args.board.now) 16 in
-    record { value = ap (λ t. cond t n 0) c.if-not-is-type2.ensures; bound = omega arith }
+    record { value = ap (λ t. cond t n 0) c.if-not-is_type2.ensures; bound = omega arith }
 
 pub returns : goal.returns
 unfolding away_volume
 returns g c =
     let n = away_upto c.args.incoming.now (g.B.Board.quotes c.args.board.now) in
     let e : c.loop-i.i ≡ 16 = omega arith in
-    record { value = c.loop-i.invariant.0 ∙ ap n e ∙ ap (λ t. cond t (n 16) 0) c.if-not-is-type2.ensures; bound = omega (arith, c.loop-i.invariant.1) }
+    record { value = c.loop-i.invariant.0 ∙ ap n e ∙ ap (λ t. cond t (n 16) 0) c.if-not-is_type2.ensures; bound = omega (arith, c.loop-i.invariant.1) }

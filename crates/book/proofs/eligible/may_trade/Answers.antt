@@ -2,10 +2,10 @@ use Rattle.std.proofs.Common.{rules}
 use Rattle.book.specs.Prices.{passes_between}
 use Rattle.book.proofs.eligible.may_trade.Goals as goal
 
-pub returns-then-passes-four : goal.returns-then-passes-four
+pub returns-then-passes_four : goal.returns-then-passes_four
 unfolding passes_between
-returns-then-passes-four c = search rules
+returns-then-passes_four c = search rules
 
-pub returns-else-passes-four : goal.returns-else-passes-four
+pub returns-else-passes_four : goal.returns-else-passes_four
 unfolding passes_between
-returns-else-passes-four c = search rules
+returns-else-passes_four c = search rules

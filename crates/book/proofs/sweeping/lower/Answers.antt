@@ -13,5 +13,5 @@ returns-in-Ok c =
     record {
       stands = t.3 ∙ sym (ap (λ b. cond b (remove os c.args.chosen.place) (set os c.args.chosen.place (less c.args.shares c.args.chosen.item))) e);
       within = omega (arith, t.0);
-      behind = drop_later c.take-out.new.cells c.args.opp.now c.in-Ok.count c.args.used (omega (arith, t.0)) t.4;
+      behind = drop_later c.take_out.new.cells c.args.opp.now c.in-Ok.count c.args.used (omega (arith, t.0)) t.4;
     }

@@ -9,25 +9,25 @@ use Rattle.book.proofs.sweeping.step.Goals as goal
 pub returns-then-incoming-eq0 : goal.returns-then-incoming-eq0
 returns-then-incoming-eq0 g c = (next_zero _ c.if-incoming-eq0.true, refl, refl)
 
-pub returns-in-default : goal.returns-in-default
-returns-in-default g c =
+pub returns-in_default : goal.returns-in_default
+returns-in_default g c =
     let i = c.args.incoming.now in
     let os = take c.args.used c.args.opp.now in
     let s = standing i c.args.own.now os (g.B.Board.quotes c.args.board.now) in
-    let e = simp sub-zero at c.in-default.ensures.value in
+    let e = simp sub-zero at c.in_default.ensures.value in
     let f = e ∙ ap (λ x. first (passes i x c.args.own.now os) os 0) c.bests-bests.ensures in
     (next_is s None c.if-incoming-eq0.false f, refl, refl)
 
-pub returns-in-Some-routed-first : goal.returns-in-Some-routed-first
-returns-in-Some-routed-first g c =
+pub returns-in-Some-routed_first : goal.returns-in-Some-routed_first
+returns-in-Some-routed_first g c =
     let i = c.args.incoming.now in
     let os = take c.args.used c.args.opp.now in
     let s = standing i c.args.own.now os (g.B.Board.quotes c.args.board.now) in
     let e = simp sub-zero at c.in-Some.ensures.value in
     let f = e ∙ ap (λ x. first (passes i x c.args.own.now os) os 0) c.bests-bests.ensures in
     let a = next_is s (Some c.in-Some.chosen) c.if-incoming-eq0.false f in
-    let r = c.in-Some-routed-first.ensures ∙ ap (λ (x : Bests). routed_first i x.other c.in-Some.chosen.item.price) c.bests-bests.ensures in
-    let b = chosen_is s c.in-Some.chosen (Some c.in-Some-routed-first.best) r in
+    let r = c.in-Some-routed_first.ensures ∙ ap (λ (x : Bests). routed_first i x.other c.in-Some.chosen.item.price) c.bests-bests.ensures in
+    let b = chosen_is s c.in-Some.chosen (Some c.in-Some-routed_first.best) r in
     (cc, omega arith, refl)
 
 pub returns-in-None : goal.returns-in-None

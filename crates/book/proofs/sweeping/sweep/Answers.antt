@@ -10,7 +10,7 @@ step-requires g c = omega (arith, c.loop-n.invariant.1)
 pub loop-n-preserved : goal.loop-n-preserved
 loop-n-preserved g c =
     let t = c.in-Some.ensures in
-    let n = rw c.with-open.ensures at t.0 in
+    let n = rw c.with_open.ensures at t.0 in
     let h : c.loop-n.n < length c.loop-n.report = omega arith in
     let k : 144 - c.loop-n.n ≡ suc (144 - (c.loop-n.n + 1)) = omega arith in
     let inv = c.loop-n.invariant in (
@@ -23,7 +23,7 @@ loop-n-preserved g c =
 pub returns-in-None : goal.returns-in-None
 returns-in-None g c =
     let t = c.in-None.ensures in
-    let n = rw c.with-open.ensures at t.0 in
+    let n = rw c.with_open.ensures at t.0 in
     let inv = c.loop-n.invariant in
     record { swept = rw (t.1, t.2) (sweep_ends _ _ _ _ n inv.0); used = (inv.1, omega arith); behind = (inv.2, rw t.1 inv.3) }
 

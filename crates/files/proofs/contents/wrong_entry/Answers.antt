@@ -22,5 +22,5 @@ loop-index-preserved c =
     let n = c.count-count.result in
     let s : n - i ≡ suc (n - (i + 1)) = omega arith in
     let r = entry_right xs (n - i) i (n - (i + 1)) c.loop-index.next s (sym c.offset.ensures.0 ∙ c.if-offset-next.false) in
-    let k = ap (λ z. wrong_entry xs (n - (i + 1)) (i + 1) (c.loop-index.next + z)) c.body-length-next.ensures.0 in
+    let k = ap (λ z. wrong_entry xs (n - (i + 1)) (i + 1) (c.loop-index.next + z)) c.body_length-next.ensures.0 in
     (k ∙ sym r ∙ c.loop-index.invariant.0, omega arith)

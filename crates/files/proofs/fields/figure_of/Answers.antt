@@ -5,29 +5,29 @@ use Rattle.files.specs.Fields.{belongs, every, figure}
 use Rattle.files.proofs.Scans.{every_more, every_all, figure_more, figure_all, digit_more, digits_small}
 use Rattle.files.proofs.fields.figure_of.Goals as goal
 
-pub overflow-mul-sum : goal.overflow-mul-sum
-overflow-mul-sum c = omega (arith, digits_small c.loop-i.sum c.loop-i.i c.loop-i.invariant.1 (omega arith))
+pub overflow_mul-sum : goal.overflow_mul-sum
+overflow_mul-sum c = omega (arith, digits_small c.loop-i.sum c.loop-i.i c.loop-i.invariant.1 (omega arith))
 
-pub overflow-sub-sum : goal.overflow-sub-sum
-overflow-sub-sum c =
-    let e = c.if-not-belongs-to.ensures in
+pub overflow_sub-sum : goal.overflow_sub-sum
+overflow_sub-sum c =
+    let e = c.if-not-belongs_to.ensures in
     grind (arith, nat_tests)
 
-pub overflow-add-sum : goal.overflow-add-sum
-overflow-add-sum c = omega (arith, digits_small c.loop-i.sum c.loop-i.i c.loop-i.invariant.1 (omega arith), c.type-inv.field c.loop-i.i)
+pub overflow_add-sum : goal.overflow_add-sum
+overflow_add-sum c = omega (arith, digits_small c.loop-i.sum c.loop-i.i c.loop-i.invariant.1 (omega arith), c.type_inv.field c.loop-i.i)
 
-pub returns-then-not-belongs-to : goal.returns-then-not-belongs-to
-returns-then-not-belongs-to c =
+pub returns-then-not-belongs_to : goal.returns-then-not-belongs_to
+returns-then-not-belongs_to c =
     let xs = c.args.field.now in
     let m = every_more (belongs Digits) xs c.loop-i.i c.loop-i-test.true in
-    let f : every (belongs Digits) xs ≡ false = sym c.loop-i.invariant.2 ∙ rw (sym c.if-not-belongs-to.ensures) at m in
+    let f : every (belongs Digits) xs ≡ false = sym c.loop-i.invariant.2 ∙ rw (sym c.if-not-belongs_to.ensures) at m in
     rw f refl
 
 pub loop-i-preserved : goal.loop-i-preserved
 loop-i-preserved c =
     let xs = c.args.field.now in
     let i = c.loop-i.i in
-    let e = sym c.if-not-belongs-to.ensures in
+    let e = sym c.if-not-belongs_to.ensures in
     let l : get_or xs i 0 ≤ 57 = grind (arith, nat_tests) in
     let m = every_more (belongs Digits) xs i c.loop-i-test.true in (
       sym (figure_more c.loop-i.sum xs i c.loop-i-test.true) ∙ c.loop-i.invariant.0,

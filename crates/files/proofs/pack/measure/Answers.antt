@@ -4,8 +4,8 @@ use Rattle.files.proofs.pack.measure.Goals as goal
 
 pub loop-at-preserved : goal.loop-at-preserved
 loop-at-preserved c =
-    let l = lines_fewer c.args.text.now c.loop-at.at c.word-end-end.result c.loop-at-test.true c.word-end-end.ensures.0 in
-    let b = bytes_fewer c.args.text.now c.loop-at.at c.word-end-end.result c.loop-at-test.true c.word-end-end.ensures.0 in
+    let l = lines_fewer c.args.text.now c.loop-at.at c.word_end-end.result c.loop-at-test.true c.word_end-end.ensures.0 in
+    let b = bytes_fewer c.args.text.now c.loop-at.at c.word_end-end.result c.loop-at-test.true c.word_end-end.ensures.0 in
     let i = c.loop-at.invariant in
     (omega arith, omega arith, omega arith, omega arith, omega arith, omega arith)
 

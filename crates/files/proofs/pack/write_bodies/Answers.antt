@@ -4,10 +4,10 @@ use Rattle.files.proofs.Packing.{line_length, bytes_fewer, joined_fewer, nothing
 use Rattle.files.proofs.Writes.{stands_more, stays_more, stands_all}
 use Rattle.files.proofs.pack.write_bodies.Goals as goal
 
-pub write-line-requires : goal.write-line-requires
-write-line-requires c =
-    let l = line_length c.args.text.now c.loop-at.at c.word-end-end.result c.loop-at-test.true c.word-end-end.ensures.0 in
-    let b = bytes_fewer c.args.text.now c.loop-at.at c.word-end-end.result c.loop-at-test.true c.word-end-end.ensures.0 in
+pub write_line-requires : goal.write_line-requires
+write_line-requires c =
+    let l = line_length c.args.text.now c.loop-at.at c.word_end-end.result c.loop-at-test.true c.word_end-end.ensures.0 in
+    let b = bytes_fewer c.args.text.now c.loop-at.at c.word_end-end.result c.loop-at-test.true c.word_end-end.ensures.0 in
     let i = c.loop-at.invariant.2 in
     omega arith
 
@@ -15,15 +15,15 @@ pub loop-at-preserved : goal.loop-at-preserved
 loop-at-preserved c =
     let text = c.args.text.now in
     let at = c.loop-at.at in
-    let e = c.word-end-end.result in
+    let e = c.word_end-end.result in
     let h = c.loop-at-test.true in
-    let k = c.word-end-end.ensures.0 in
+    let k = c.word_end-end.ensures.0 in
     let line = take (e - at) (drop at text) in
     let l = line_length text at e h k in
     let b = bytes_fewer text at e h k in
     let i = c.loop-at.invariant.2 in (
-      stands_more c.loop-at.out c.write-line.new.out line c.loop-at.next (e - at) l _ _ _ c.write-line.ensures.stands (joined_fewer text at e h k) c.loop-at.invariant.0,
-      stays_more c.loop-at.out c.write-line.new.out line c.loop-at.next (e - at) l _ c.write-line.ensures.behind c.loop-at.invariant.1,
+      stands_more c.loop-at.out c.write_line.new.out line c.loop-at.next (e - at) l _ _ _ c.write_line.ensures.stands (joined_fewer text at e h k) c.loop-at.invariant.0,
+      stays_more c.loop-at.out c.write_line.new.out line c.loop-at.next (e - at) l _ c.write_line.ensures.behind c.loop-at.invariant.1,
       omega arith,
     )
 

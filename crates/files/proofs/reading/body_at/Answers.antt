@@ -10,12 +10,12 @@ returns-then-index-count c =
     let f = c.args.file.now in
     let i = c.args.index in
     let v : ◌≡◌ {A = Option Line} None (line_at f i) = sym (cond-false (ltb i (count_of f)) (read_line (body_in f i)) None (le-ltb i (count_of f) (omega arith))) in
-    record { value = v; written = line_written f i None v; read = line_read f i None (bytes_of f c.type-inv.file) v }
+    record { value = v; written = line_written f i None v; read = line_read f i None (bytes_of f c.type_inv.file) v }
 
 pub returns : goal.returns
 returns c =
     let f = c.args.file.now in
     let i = c.args.index in
-    let v : line_in c.read-body.result ≡ line_at f i =
-    c.read-body.ensures ∙ ap read_line c.body.ensures.0 ∙ sym (cond-true (ltb i (count_of f)) (read_line (body_in f i)) None (lt-ltb i (count_of f) (omega arith))) in
-    record { value = v; written = line_written f i (line_in c.read-body.result) v; read = line_read f i (line_in c.read-body.result) (bytes_of f c.type-inv.file) v }
+    let v : line_in c.read_body.result ≡ line_at f i =
+    c.read_body.ensures ∙ ap read_line c.body.ensures.0 ∙ sym (cond-true (ltb i (count_of f)) (read_line (body_in f i)) None (lt-ltb i (count_of f) (omega arith))) in
+    record { value = v; written = line_written f i (line_in c.read_body.result) v; read = line_read f i (line_in c.read_body.result) (bytes_of f c.type_inv.file) v }

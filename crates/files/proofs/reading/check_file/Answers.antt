@@ -5,12 +5,12 @@ use Rattle.files.specs.Files.{refusal_of, checked}
 use Rattle.files.proofs.Laws.{answered, checked_counted, bytes_of}
 use Rattle.files.proofs.reading.check_file.Goals as goal
 
-pub returns-then-is-wrong-size : goal.returns-then-is-wrong-size
+pub returns-then-is_wrong_size : goal.returns-then-is_wrong_size
 unfolding refusal_of
-returns-then-is-wrong-size c =
+returns-then-is_wrong_size c =
     let f = c.args.file.now in
     let v : ◌≡◌ {A = Result ℕ Refusal} (Err FileSize) (checked f) = search rules in
-    let b = bytes_of f c.type-inv.file in
+    let b = bytes_of f c.type_inv.file in
     record { value = v; written = answered f (Err FileSize) b v; read = checked_counted f (Err FileSize) b v }
 
 pub returns-in-Some : goal.returns-in-Some
@@ -19,13 +19,13 @@ returns-in-Some c =
     let f = c.args.file.now in
     let r : Refusal = Contents c.in-Some.index (2 + 4 * c.in-Some.index) in
     let v : ◌≡◌ {A = Result ℕ Refusal} (Err r) (checked f) = search rules in
-    let b = bytes_of f c.type-inv.file in
+    let b = bytes_of f c.type_inv.file in
     record { value = v; written = answered f (Err r) b v; read = checked_counted f (Err r) b v }
 
 pub returns : goal.returns
 unfolding refusal_of
 returns c =
     let f = c.args.file.now in
-    let v : c.check-bodies.result ≡ checked f = search rules in
-    let b = bytes_of f c.type-inv.file in
-    record { value = v; written = answered f c.check-bodies.result b v; read = checked_counted f c.check-bodies.result b v }
+    let v : c.check_bodies.result ≡ checked f = search rules in
+    let b = bytes_of f c.type_inv.file in
+    record { value = v; written = answered f c.check_bodies.result b v; read = checked_counted f c.check_bodies.result b v }

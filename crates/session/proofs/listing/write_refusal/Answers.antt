@@ -7,11 +7,11 @@ use Rattle.session.proofs.listing.write_refusal.Goals as goal
 pub returns : goal.returns
 returns c =
     let r = c.args.refusal in
-    let a = c.write-bytes-first in
-    let n = c.write-figure-second in
-    let i = c.write-figure-third in
-    let p = c.write-figure-fourth in
-    let f = c.write-byte in
+    let a = c.write_bytes-first in
+    let n = c.write_figure-second in
+    let i = c.write_figure-third in
+    let p = c.write_figure-fourth in
+    let f = c.write_byte in
     let number = rw c.number-number.ensures at n.ensures.wrote in
     let index = rw c.index-index.ensures at i.ensures.wrote in
     let place = rw c.place-place.ensures at p.ensures.wrote in

@@ -6,14 +6,14 @@ use Rattle.session.proofs.listing.write_rows.Goals as goal
 pub loop-row-init : goal.loop-row-init
 loop-row-init c = (wrote_none c.args.at c.args.at c.args.listing.now refl, omega arith)
 
-pub write-row-end-requires : goal.write-row-end-requires
-write-row-end-requires c = omega (arith, c.loop-row.invariant.1)
+pub write_row-end-requires : goal.write_row-end-requires
+write_row-end-requires c = omega (arith, c.loop-row.invariant.1)
 
 pub loop-row-preserved : goal.loop-row-preserved
 loop-row-preserved c =
     let i = c.loop-row.row-index in
     let rows = c.args.rows.now in
-    let w = c.write-row-end in
+    let w = c.write_row-end in
     (rows_wrote rows i _ c.args.at c.loop-row.end w.result c.args.listing.now c.loop-row.listing w.new.listing c.loop-row-test.true c.loop-row.invariant.0 w.ensures.wrote, omega (arith, w.ensures.short, c.loop-row.invariant.1))
 
 pub returns : goal.returns

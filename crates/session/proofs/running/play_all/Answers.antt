@@ -19,15 +19,15 @@ loop-index-init g c = (played_none _ _ _ c.args.listing.now, refl)
 pub unwrap-body-requires : goal.unwrap-body-requires
 unwrap-body-requires g c =
     let lines = lines_in c.args.file.now in
-    body_there c.body-at.result lines c.loop-index.index (omega (arith, c.requires.read.1)) (c.body-at.ensures.read lines c.requires.read.0)
+    body_there c.body_at.result lines c.loop-index.index (omega (arith, c.requires.read.1)) (c.body_at.ensures.read lines c.requires.read.0)
 
 pub play-at-requires : goal.play-at-requires
 play-at-requires g c =
     let file = c.args.file.now in
     let lines = lines_in file in
     let line = line_of c.unwrap-body.result in
-    let here : nth c.loop-index.index lines ≡ Some line = sym (c.body-at.ensures.read lines c.requires.read.0) ∙ ap line_in c.unwrap-body.ensures in
-    let fits = ((reads_exactly file lines (bytes_of file c.type-inv.file)).0 c.requires.read.0).0 in
+    let here : nth c.loop-index.index lines ≡ Some line = sym (c.body_at.ensures.read lines c.requires.read.0) ∙ ap line_in c.unwrap-body.ensures in
+    let fits = ((reads_exactly file lines (bytes_of file c.type_inv.file)).0 c.requires.read.0).0 in
     let h = c.requires.handed in
     record {
       handed = (omega arith, omega arith, omega arith);
@@ -46,7 +46,7 @@ loop-index-preserved g c =
     let ranked = g.R.Ranking.ranked in
     let m = held l.book l.bids l.offers (b l.board) in
     let n = held p.new.book p.new.bids p.new.offers (b p.new.board) in
-    let here : nth l.index lines ≡ Some line = sym (c.body-at.ensures.read lines c.requires.read.0) ∙ ap line_in c.unwrap-body.ensures in
+    let here : nth l.index lines ≡ Some line = sym (c.body_at.ensures.read lines c.requires.read.0) ∙ ap line_in c.unwrap-body.ensures in
     let wrote = subst (λ r. Wrote l.at l.listing p.result p.new.listing (entry_text line (entry (call_of line) 144 (apply (terms (ranked r)) m (call_of line) 144)))) l.invariant.1 p.ensures.wrote in
     let market = subst (λ r. n ≡ (apply (terms (ranked r)) m (call_of line) 144).market) l.invariant.1 p.ensures.market in
     let short = played_short _ _ _ _ _ _ _ _ l.invariant.0 in

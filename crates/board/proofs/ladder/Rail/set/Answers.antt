@@ -16,10 +16,10 @@ returns-in-Some c =
       same = c.add.ensures.same ∙ c.remove.ensures.same;
     }
 
-pub returns-in-default : goal.returns-in-default
-returns-in-default c =
+pub returns-in_default : goal.returns-in_default
+returns-in_default c =
     let s = c.args.self.now in
     record {
-      quotes = rw c.in-default.is (set_none s.order.side c.args.market _ _ s.sound c.remove.ensures.stands);
+      quotes = rw c.in_default.is (set_none s.order.side c.args.market _ _ s.sound c.remove.ensures.stands);
       same = c.remove.ensures.same;
     }

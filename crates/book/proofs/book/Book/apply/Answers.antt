@@ -6,7 +6,7 @@ use Rattle.book.proofs.book.Book.apply.Goals as goal
 pub returns : goal.returns
 returns g c =
     let k = c.args.self.now in
-    let e = c.make-call.ensures in
+    let e = c.make_call.ensures in
     record {
       outcome = e.outcome;
       cells = e.cells;

@@ -12,7 +12,7 @@ returns-in-Some g c =
     let k = c.args.self.now in
     let b = g.B.Board.quotes c.args.board.now in
     let m = held k c.args.bids.now c.args.offers.now b in
-    let e = c.if-not-has-cells.ensures in
+    let e = c.if-not-has_cells.ensures in
     let long : (128 ≡ length c.args.bids.now) × (128 ≡ length c.args.offers.now) = grind (arith, nat_tests) in
     let n = own_count c.args.side k.bids k.offers k.arrivals c.args.bids.now c.args.offers.now b (omega (arith, k.within)) (omega (arith, k.within)) in
     let f = enter_refused (terms (g.R.Ranking.ranked k.ranking)) m c.args.side c.args.price c.args.kind c.args.shares (length c.args.report.now) _ _ (n ∙ sym c.count.ensures.value) c.in-Some.ensures.value in
@@ -24,8 +24,8 @@ returns-in-Buy g c =
     let t = c.trade-t in
     let b = g.B.Board.quotes c.args.board.now in
     let m = held k c.args.bids.now c.args.offers.now b in
-    let e = c.if-not-has-cells.ensures in
-    let rest = c.in-default.ensures in
+    let e = c.if-not-has_cells.ensures in
+    let rest = c.in_default.ensures in
     let long : (128 ≡ length c.args.bids.now) × (128 ≡ length c.args.offers.now) = grind (arith, nat_tests) in
     let n = own_count c.args.side k.bids k.offers k.arrivals c.args.bids.now c.args.offers.now b (omega (arith, k.within)) (omega (arith, k.within)) in
     let short : t.result.rows ≤ length t.new.report = omega (arith, t.ensures.counts.2, rest.passes.0) in
@@ -37,7 +37,7 @@ returns-in-Buy g c =
     (rw c.in-Buy.is refl) (rw c.in-Buy.is refl) (rw c.in-Buy.is refl)
     (n ∙ sym c.count.ensures.value) rest.value (length-take-le t.result.rows t.new.report short) t.ensures.swept t.ensures.own in
     let a = c.accept.ensures in
-    let w = c.answer.ensures ∙ ap (λ o. entered o t.result.rows) c.with-open.ensures in
+    let w = c.answer.ensures ∙ ap (λ o. entered o t.result.rows) c.with_open.ensures in
     record {
       outcome = rw (w, a.1, a.2, a.3) (f ∙ cells_pass (length c.args.bids.now) (length c.args.offers.now) m _ e);
       cells = (a.0, rw a.1 (drop_later t.new.own c.args.bids.now t.result.own (max k.bids t.result.own) (omega arith) t.ensures.behind.2), rw a.2 (drop_later t.new.opp c.args.offers.now k.offers (max k.offers t.result.opp) (omega arith) t.ensures.behind.1));
@@ -50,8 +50,8 @@ returns-in-Sell g c =
     let t = c.trade-t-in-Sell in
     let b = g.B.Board.quotes c.args.board.now in
     let m = held k c.args.bids.now c.args.offers.now b in
-    let e = c.if-not-has-cells.ensures in
-    let rest = c.in-default.ensures in
+    let e = c.if-not-has_cells.ensures in
+    let rest = c.in_default.ensures in
     let long : (128 ≡ length c.args.bids.now) × (128 ≡ length c.args.offers.now) = grind (arith, nat_tests) in
     let n = own_count c.args.side k.bids k.offers k.arrivals c.args.bids.now c.args.offers.now b (omega (arith, k.within)) (omega (arith, k.within)) in
     let short : t.result.rows ≤ length t.new.report = omega (arith, t.ensures.counts.2, rest.passes.0) in
@@ -63,7 +63,7 @@ returns-in-Sell g c =
     (rw c.in-Sell.is refl) (rw c.in-Sell.is refl) (rw c.in-Sell.is refl)
     (n ∙ sym c.count.ensures.value) rest.value (length-take-le t.result.rows t.new.report short) t.ensures.swept t.ensures.own in
     let a = c.accept-in-Sell.ensures in
-    let w = c.answer-in-Sell.ensures ∙ ap (λ o. entered o t.result.rows) c.with-open-in-Sell.ensures in
+    let w = c.answer-in-Sell.ensures ∙ ap (λ o. entered o t.result.rows) c.with_open-in-Sell.ensures in
     record {
       outcome = rw (w, a.1, a.2, a.3) (f ∙ cells_pass (length c.args.bids.now) (length c.args.offers.now) m _ e);
       cells = (a.0, rw a.1 (drop_later t.new.opp c.args.bids.now k.bids (max k.bids t.result.opp) (omega arith) t.ensures.behind.1), rw a.2 (drop_later t.new.own c.args.offers.now t.result.own (max k.offers t.result.own) (omega arith) t.ensures.behind.2));

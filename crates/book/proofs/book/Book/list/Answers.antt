@@ -14,12 +14,12 @@ pub returns : goal.returns
 returns g c b =
     let k = c.args.self.now in
     let m = held k c.args.bids.now c.args.offers.now b in
-    let one = c.write-side-count in
-    let two = c.write-side in
+    let one = c.write_side-count in
+    let two = c.write_side in
     let first = simp sub-zero at one.ensures.rows in
     let second = simp sub-zero at two.ensures.rows in
     let written : take two.result two.new.rows ≡ standing_rows m = second ∙ ap (λ rows. rows ++ map (standing_row Sell) (take k.offers c.args.offers.now)) first in
-    let e = c.if-not-has-cells.ensures in
+    let e = c.if-not-has_cells.ensures in
     let long : (128 ≡ length c.args.bids.now) × (128 ≡ length c.args.offers.now) = grind (arith, nat_tests) in
     let bids = length-take-le k.bids c.args.bids.now (omega (arith, k.within)) in
     let offers = length-take-le k.offers c.args.offers.now (omega (arith, k.within)) in

@@ -10,7 +10,7 @@ returns-in-Ok g c =
     let p = c.in-Ok.ensures in
     record {
       outcome = post_by m c.args.market c.args.side c.args.price c.args.shares (Ok tt) _ p.answer p.after
-          ∙ cells_pass (length c.args.bids.now) (length c.args.offers.now) m _ c.if-not-has-cells.ensures;
+          ∙ cells_pass (length c.args.bids.now) (length c.args.offers.now) m _ c.if-not-has_cells.ensures;
       rows = λ _. (refl, refl);
     }
 
@@ -20,6 +20,6 @@ returns-in-Err g c =
     let p = c.in-Err.ensures in
     record {
       outcome = post_by m c.args.market c.args.side c.args.price c.args.shares (Err c.in-Err.refusal) _ p.answer p.after
-          ∙ cells_pass (length c.args.bids.now) (length c.args.offers.now) m _ c.if-not-has-cells.ensures;
+          ∙ cells_pass (length c.args.bids.now) (length c.args.offers.now) m _ c.if-not-has_cells.ensures;
       rows = λ _. (refl, refl);
     }

@@ -11,24 +11,24 @@ returns-in-Ok g c =
     let t = c.in-Ok.ensures in
     let n = c.in-Ok.count in
     record {
-      market = λ b. taken_off_at (held k c.args.bids.now c.args.offers.now b) c.args.at.now Buy (take n c.take-out.new.cells) c.in-Buy.is t.3;
+      market = λ b. taken_off_at (held k c.args.bids.now c.args.offers.now b) c.args.at.now Buy (take n c.take_out.new.cells) c.in-Buy.is t.3;
       fewer = (omega (arith, t.0), omega (arith, t.0));
       room = rw c.in-Buy.is (omega (arith, t.0, k.within));
       ranking = refl;
-      bids = drop_later c.take-out.new.cells c.args.bids.now n (max k.bids n) (omega arith) t.4;
+      bids = drop_later c.take_out.new.cells c.args.bids.now n (max k.bids n) (omega arith) t.4;
       offers = refl;
     }
 
-pub returns-in-Ok-take-out : goal.returns-in-Ok-take-out
-returns-in-Ok-take-out g c =
+pub returns-in-Ok-take_out : goal.returns-in-Ok-take_out
+returns-in-Ok-take_out g c =
     let k = c.args.self.now in
-    let t = c.in-Ok-take-out.ensures in
-    let n = c.in-Ok-take-out.count in
+    let t = c.in-Ok-take_out.ensures in
+    let n = c.in-Ok-take_out.count in
     record {
-      market = λ b. taken_off_at (held k c.args.bids.now c.args.offers.now b) c.args.at.now Sell (take n c.take-out-in-Sell.new.cells) c.in-Sell.is t.3;
+      market = λ b. taken_off_at (held k c.args.bids.now c.args.offers.now b) c.args.at.now Sell (take n c.take_out-in-Sell.new.cells) c.in-Sell.is t.3;
       fewer = (omega (arith, t.0), omega (arith, t.0));
       room = rw c.in-Sell.is (omega (arith, t.0, k.within));
       ranking = refl;
-      offers = drop_later c.take-out-in-Sell.new.cells c.args.offers.now n (max k.offers n) (omega arith) t.4;
+      offers = drop_later c.take_out-in-Sell.new.cells c.args.offers.now n (max k.offers n) (omega arith) t.4;
       bids = refl;
     }
