@@ -16,4 +16,4 @@ returns-in-Sell c =
     let l = c.args.self.now in
     let bids = take l.bids.count l.bids.cells in
     let offers = take l.offers.count l.offers.cells in
-    rw c.in-Sell.is (c.best_in-Sell.ensures ∙ first_best (ladder_quotes bids offers) Sell offers (λ m. refl) (of_side Sell _ offers l.offers_sell l.offers.sound))
+    rw c.in-Sell.is (c.best-in-Sell.ensures ∙ first_best (ladder_quotes bids offers) Sell offers (λ m. refl) (of_side Sell _ offers l.offers_sell l.offers.sound))

@@ -9,7 +9,7 @@ invariant_of-self c =
     let w = c.in-Ok.ensures in
     let l : length c.put.new.cells ≡ 16 = omega (arith, s.long) in
     let h : c.in-Ok.count ≤ 16 = omega (arith, s.long, w.1) in
-    (l, (h, (ok_put s.order.side c.args.market c.args.quote _ _ c.requires.0 c.requires.1.0 c.requires.1.1 s.sound w.2, tt)))
+    record { long = l; within = h; sound = ok_put s.order.side c.args.market c.args.quote _ _ c.requires.0 c.requires.1.0 c.requires.1.1 s.sound w.2 }
 
 pub returns-in_default : goal.returns-in_default
 returns-in_default c =

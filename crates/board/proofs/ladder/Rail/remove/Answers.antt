@@ -11,7 +11,7 @@ invariant_of-self c =
     let w = c.in-Ok.ensures in
     let l : length c.take_out.new.cells ≡ 16 = omega (arith, s.long) in
     let h : c.in-Ok.count ≤ 16 = omega (arith, s.within, w.0) in
-    (l, (h, (ok_without s.order.side c.args.market _ _ s.sound (taken_out c.args.market _ c.standing.result.now _ c.in-Some.found c.in-Some.ensures c.standing.ensures c.in-Ok.ensures.3), tt)))
+    record { long = l; within = h; sound = ok_without s.order.side c.args.market _ _ s.sound (taken_out c.args.market _ c.standing.result.now _ c.in-Some.found c.in-Some.ensures c.standing.ensures c.in-Ok.ensures.3) }
 
 pub returns-in_default : goal.returns-in_default
 returns-in_default c =
