@@ -24,7 +24,7 @@ impl<R: Ranking + Copy> Book<R> {
         offers: &[Order],
         board: &mut B,
     ) -> Result<Accepted, Refusal>
-        ensures outcome { outcome result [] (held self.now bids.now offers.now (quotes board.new)) ≡ decided (cells_refusal (length bids.now) (length offers.now)) (held self.now bids.now offers.now (quotes board.old)) (post (held self.now bids.now offers.now (quotes board.old)) market side price shares) }
+        ensures outcome { outcome result [] (held self.now bids.now offers.now (B.quotes board.new)) ≡ decided (cells_refusal (length bids.now) (length offers.now)) (held self.now bids.now offers.now (B.quotes board.old)) (post (held self.now bids.now offers.now (B.quotes board.old)) market side price shares) }
         ensures rows { (report : List Row) → (rows_in result report ≡ []) × rows_kept result report report }
     {
         if !has_cells(bids, offers) {
@@ -50,7 +50,7 @@ impl<R: Ranking + Copy> Book<R> {
         board: &mut B,
         report: &mut [Row],
     ) -> Result<Accepted, Refusal>
-        ensures outcome { outcome result (rows_in result report.new) (held self.new bids.new offers.new (quotes board.new)) ≡ decided (cells_refusal (length bids.old) (length offers.old)) (held self.old bids.old offers.old (quotes board.old)) (apply (terms (ranked self.old.ranking)) (held self.old bids.old offers.old (quotes board.old)) call (length report.old)) }
+        ensures outcome { outcome result (rows_in result report.new) (held self.new bids.new offers.new (B.quotes board.new)) ≡ decided (cells_refusal (length bids.old) (length offers.old)) (held self.old bids.old offers.old (B.quotes board.old)) (apply (terms (R.ranked self.old.ranking)) (held self.old bids.old offers.old (B.quotes board.old)) call (length report.old)) }
         ensures cells { cells_kept result self.old self.new bids.old bids.new offers.old offers.new }
         ensures rows { rows_kept result report.old report.new }
     {
@@ -83,10 +83,10 @@ impl<R: Ranking + Copy> Book<R> {
         board: &mut B,
         report: &mut [Row],
     ) -> Result<Accepted, Refusal>
-        ensures outcome { outcome result (rows_in result report.new) (held self.new bids.new offers.new (quotes board.new)) ≡ decided (cells_refusal (length bids.old) (length offers.old)) (held self.old bids.old offers.old (quotes board.old)) (apply (terms (ranked self.old.ranking)) (held self.old bids.old offers.old (quotes board.old)) call (length report.old)) }
+        ensures outcome { outcome result (rows_in result report.new) (held self.new bids.new offers.new (B.quotes board.new)) ≡ decided (cells_refusal (length bids.old) (length offers.old)) (held self.old bids.old offers.old (B.quotes board.old)) (apply (terms (R.ranked self.old.ranking)) (held self.old bids.old offers.old (B.quotes board.old)) call (length report.old)) }
         ensures cells { cells_kept result self.old self.new bids.old bids.new offers.old offers.new }
         ensures rows { rows_kept result report.old report.new }
-        ensures tape { cells_ok (length bids.old) (length offers.old) ≡ true → GoesOnFairly (ranked self.old.ranking) (held self.old bids.old offers.old (quotes board.old)) call (length report.old) (outcome result (rows_in result report.new) (held self.new bids.new offers.new (quotes board.new))) }
+        ensures tape { cells_ok (length bids.old) (length offers.old) ≡ true → GoesOnFairly (R.ranked self.old.ranking) (held self.old bids.old offers.old (B.quotes board.old)) call (length report.old) (outcome result (rows_in result report.new) (held self.new bids.new offers.new (B.quotes board.new))) }
     {
         self.make_call(call, bids, offers, board, report)
     }

@@ -94,7 +94,7 @@ impl<R: Ranking + Copy> Book<R> {
     // Puts an order on a side.
     fn put_on(&mut self, side: Side, order: Order, bids: &mut [Order], offers: &mut [Order])
         requires { (length bids.old ≡ 128) × ((length offers.old ≡ 128) × (count_of side self.old.bids self.old.offers < 128)) }
-        ensures market { (b : Quotes) → held self.new bids.new offers.new b ≡ put_on (ranked self.old.ranking) side order (held self.old bids.old offers.old b) }
+        ensures market { (b : Quotes) → held self.new bids.new offers.new b ≡ put_on (R.ranked self.old.ranking) side order (held self.old bids.old offers.old b) }
         ensures ranking { self.new.ranking ≡ self.old.ranking }
         ensures bids { same_behind self.old.bids self.new.bids bids.old bids.new }
         ensures offers { same_behind self.old.offers self.new.offers offers.old offers.new }
@@ -147,7 +147,7 @@ impl<R: Ranking + Copy> Book<R> {
         bids: &mut [Order],
         offers: &mut [Order],
     ) -> Result<Accepted, Refusal>
-        ensures outcome { (b : Quotes) → outcome result [] (held self.new bids.new offers.new b) ≡ decided (cells_refusal (length bids.old) (length offers.old)) (held self.old bids.old offers.old b) (cut (terms (ranked self.old.ranking)) (held self.old bids.old offers.old b) arrival shares) }
+        ensures outcome { (b : Quotes) → outcome result [] (held self.new bids.new offers.new b) ≡ decided (cells_refusal (length bids.old) (length offers.old)) (held self.old bids.old offers.old b) (cut (terms (R.ranked self.old.ranking)) (held self.old bids.old offers.old b) arrival shares) }
         ensures cells { cells_kept result self.old self.new bids.old bids.new offers.old offers.new }
         ensures rows { (report : List Row) → (rows_in result report ≡ []) × rows_kept result report report }
     {

@@ -19,7 +19,7 @@ use shelf::types::Placed;
 
 // The best quotations of the incoming order's own side and of the other.
 pub fn bests<B: Board>(board: &B, side: Side) -> Bests
-    ensures { asked result ≡ bests (quotes board.now) side }
+    ensures { asked result ≡ bests (B.quotes board.now) side }
 {
     Bests {
         own: board.best(side),
@@ -204,7 +204,7 @@ fn quote_worth(incoming: &Order, quote: Option<Quote>) -> u32
 
 // The volume away: for a Type 2, the quotations of the other side at its limit or better.
 fn away_volume<B: Board>(incoming: &Order, board: &B) -> u64
-    ensures value { result ≡ away_volume incoming.now (quotes board.now) }
+    ensures value { result ≡ away_volume incoming.now (B.quotes board.now) }
     ensures bound { result ≤ 68719476736 }
 {
     if !is_type2(incoming.kind) {
@@ -221,7 +221,7 @@ fn away_volume<B: Board>(incoming: &Order, board: &B) -> u64
 // The volume that an entry is measured by before it trades.
 pub fn volume<B: Board>(incoming: &Order, board: &B, opp: &[Order]) -> u64
     requires { length opp.now ≤ 128 }
-    ensures { result ≡ volume incoming.now opp.now (quotes board.now) }
+    ensures { result ≡ volume incoming.now opp.now (B.quotes board.now) }
 {
     let bests = bests(board, incoming.side);
     resting_volume(incoming, &bests, opp) + away_volume(incoming, board)

@@ -62,7 +62,7 @@ fn refused(incoming: &Order, arrivals: u32, count: usize, room: usize) -> Option
 // Rests the residue, or leaves the side as it is. Answers the side's count.
 fn settle<R: Ranking + Copy>(ranking: R, left: &Order, own: &mut [Order], count: usize) -> usize
     requires { (count ≤ length own.old) × ((cancels left.now.kind ≡ false → count < length own.old)) }
-    ensures stands { take result own.new ≡ own_after (ranked ranking) left.now (take count own.old) }
+    ensures stands { take result own.new ≡ own_after (R.ranked ranking) left.now (take count own.old) }
     ensures within { result ≤ length own.old }
     ensures behind { drop result own.new ≡ drop result own.old }
 {
@@ -100,8 +100,8 @@ fn trade<R: Ranking + Copy, B: Board>(
     report: &mut [Row],
 ) -> Traded
     requires { (own_count ≤ length own.old) × (((cancels incoming.now.kind ≡ false → own_count < length own.old)) × ((opp_count ≤ 128) × ((opp_count ≤ length opp.old) × (144 ≤ length report.old)))) }
-    ensures swept { swept (take result.rows report.new) (standing (with_open result.«open» incoming.now) (take own_count own.old) (take result.opp opp.new) (quotes board.new)) ≡ measured_sweep (standing incoming.now (take own_count own.old) (take opp_count opp.old) (quotes board.old)) }
-    ensures own { take result.own own.new ≡ own_after (ranked ranking) (with_open result.«open» incoming.now) (take own_count own.old) }
+    ensures swept { swept (take result.rows report.new) (standing (with_open result.«open» incoming.now) (take own_count own.old) (take result.opp opp.new) (B.quotes board.new)) ≡ measured_sweep (standing incoming.now (take own_count own.old) (take opp_count opp.old) (B.quotes board.old)) }
+    ensures own { take result.own own.new ≡ own_after (R.ranked ranking) (with_open result.«open» incoming.now) (take own_count own.old) }
     ensures counts { (result.own ≤ length own.old) × (result.opp ≤ opp_count) × (result.rows ≤ 144) }
     ensures behind { (drop result.rows report.new ≡ drop result.rows report.old) × (drop opp_count opp.new ≡ drop opp_count opp.old) × (drop result.own own.new ≡ drop result.own own.old) }
 {
@@ -181,7 +181,7 @@ impl<R: Ranking + Copy> Book<R> {
         board: &mut B,
         report: &mut [Row],
     ) -> Result<Accepted, Refusal>
-        ensures outcome { outcome result (rows_in result report.new) (held self.new bids.new offers.new (quotes board.new)) ≡ decided (cells_refusal (length bids.old) (length offers.old)) (held self.old bids.old offers.old (quotes board.old)) (enter (terms (ranked self.old.ranking)) (held self.old bids.old offers.old (quotes board.old)) side price kind shares (length report.old)) }
+        ensures outcome { outcome result (rows_in result report.new) (held self.new bids.new offers.new (B.quotes board.new)) ≡ decided (cells_refusal (length bids.old) (length offers.old)) (held self.old bids.old offers.old (B.quotes board.old)) (enter (terms (R.ranked self.old.ranking)) (held self.old bids.old offers.old (B.quotes board.old)) side price kind shares (length report.old)) }
         ensures cells { cells_kept result self.old self.new bids.old bids.new offers.old offers.new }
         ensures rows { rows_kept result report.old report.new }
     {

@@ -57,7 +57,7 @@ fn route<B: Board>(incoming: &Order, board: &mut B, best: Best, used: usize) -> 
     ensures row { result.row ≡ Route incoming.now.arrival best.market best.quote.price (min incoming.now.«open» best.quote.shares) }
     ensures left { result.«open» ≡ incoming.now.«open» - min incoming.now.«open» best.quote.shares }
     ensures used { result.used ≡ used }
-    ensures quotes { quotes board.new ≡ taken (quotes board.old) (opposite incoming.now.side) best.market (min incoming.now.«open» best.quote.shares) }
+    ensures quotes { B.quotes board.new ≡ taken (B.quotes board.old) (opposite incoming.now.side) best.market (min incoming.now.«open» best.quote.shares) }
 {
     let shares = incoming.open.min(best.quote.shares);
     let _ = board.take(best.market, other(incoming.side), shares);
@@ -125,7 +125,7 @@ fn step<B: Board>(
     used: usize,
 ) -> Option<Left>
     requires { used ≤ length opp.old }
-    ensures { elim result [ None ↦ (next (standing incoming.now own.now (take used opp.old) (quotes board.old)) ≡ None) × (opp.new ≡ opp.old) × (quotes board.new ≡ quotes board.old) | Some t ↦ (next (standing incoming.now own.now (take used opp.old) (quotes board.old)) ≡ Some (stepped t.row (standing (with_open t.«open» incoming.now) own.now (take t.used opp.new) (quotes board.new)))) × (t.used ≤ used) × (drop used opp.new ≡ drop used opp.old) ] }
+    ensures { elim result [ None ↦ (next (standing incoming.now own.now (take used opp.old) (B.quotes board.old)) ≡ None) × (opp.new ≡ opp.old) × (B.quotes board.new ≡ B.quotes board.old) | Some t ↦ (next (standing incoming.now own.now (take used opp.old) (B.quotes board.old)) ≡ Some (stepped t.row (standing (with_open t.«open» incoming.now) own.now (take t.used opp.new) (B.quotes board.new)))) × (t.used ≤ used) × (drop used opp.new ≡ drop used opp.old) ] }
 {
     if incoming.open == 0 {
         return None;
@@ -150,7 +150,7 @@ fn sweep<B: Board>(
     report: &mut [Row],
 ) -> Swept
     requires { (used ≤ length opp.old) × (144 ≤ length report.old) }
-    ensures swept { swept (take result.rows report.new) (standing (with_open result.«open» incoming.now) own.now (take result.used opp.new) (quotes board.new)) ≡ sweep 144 (standing incoming.now own.now (take used opp.old) (quotes board.old)) }
+    ensures swept { swept (take result.rows report.new) (standing (with_open result.«open» incoming.now) own.now (take result.used opp.new) (B.quotes board.new)) ≡ sweep 144 (standing incoming.now own.now (take used opp.old) (B.quotes board.old)) }
     ensures used { (result.used ≤ used) × (result.rows ≤ 144) }
     ensures behind { (drop result.rows report.new ≡ drop result.rows report.old) × (drop used opp.new ≡ drop used opp.old) }
 {
@@ -180,7 +180,7 @@ fn sweep<B: Board>(
 // Whether the volume is below the MTV of an entry. One without an MTV is not measured.
 fn falls_short<B: Board>(incoming: &Order, board: &B, opp: &[Order]) -> bool
     requires { length opp.now ≤ 128 }
-    ensures { result ≡ not (nat_le (mtv_of incoming.now.kind) (volume incoming.now opp.now (quotes board.now))) }
+    ensures { result ≡ not (nat_le (mtv_of incoming.now.kind) (volume incoming.now opp.now (B.quotes board.now))) }
 {
     let mtv = mtv_of(incoming.kind);
     mtv > 0 && volume(incoming, board, opp) < u64::from(mtv)
@@ -196,7 +196,7 @@ pub fn measured_sweep<B: Board>(
     report: &mut [Row],
 ) -> Swept
     requires { (used ≤ 128) × ((used ≤ length opp.old) × (144 ≤ length report.old)) }
-    ensures swept { swept (take result.rows report.new) (standing (with_open result.«open» incoming.now) own.now (take result.used opp.new) (quotes board.new)) ≡ measured_sweep (standing incoming.now own.now (take used opp.old) (quotes board.old)) }
+    ensures swept { swept (take result.rows report.new) (standing (with_open result.«open» incoming.now) own.now (take result.used opp.new) (B.quotes board.new)) ≡ measured_sweep (standing incoming.now own.now (take used opp.old) (B.quotes board.old)) }
     ensures used { (result.used ≤ used) × (result.rows ≤ 144) }
     ensures behind { (drop result.rows report.new ≡ drop result.rows report.old) × (drop used opp.new ≡ drop used opp.old) }
 {
