@@ -20,7 +20,7 @@ use Rattle.files.specs.declared.types.KindLetter.{KindLetter}
 use Rattle.files.specs.declared.types.KindLetter.TheVariants as kind
 use Rattle.files.specs.declared.types.Wanted.{Wanted}
 use Rattle.files.specs.declared.types.Wanted.TheVariants as want
-use Rattle.files.specs.Fields.{Malformed, none, is_label, number, first_letter, kind_letter, side_letter, routing_digit, mark_letter, begun, sided, then, after, is_end, read_field, fault_from, fault_past, fault_of, fields}
+use Rattle.files.specs.Fields.{Malformed, none, is_label, number, first_letter, kind_letter, side_letter, routing_digit, mark_letter, begun, sided, then_wanted, after, is_end, read_field, fault_from, fault_past, fault_of, fields}
 use Rattle.files.specs.Lines.{Line, New, Cut, Cancel, Post, and_then, said, read_words, read_line, label_in, only_at, kind_from}
 use Rattle.files.specs.Written.{side_bytes, routing_bytes, mark_bytes, kind_bytes, ilo_words, words, spaced, body_bytes, Small, LawfulKind, LawfulLine}
 use Rattle.files.proofs.Words.{by_test}
@@ -45,8 +45,8 @@ pass_more wanted w ws next e h p =
 pub pass_end : Pass want.End []
 pass_end = record { clean = λ at. refl }
 
-pub pass_number : (wanted next : Wanted) (n : ℕ) (ws : List (List ℕ)) → ((w : List ℕ) → after wanted w ≡ then (number w) (λ _. next)) → Small n → Pass next ws → Pass wanted (decimal n ∷ ws)
-pass_number wanted next n ws is h p = pass_more wanted (decimal n) ws next (is (decimal n) ∙ ap (λ r. then r (λ _. next)) (number_decimal n h)) (decimal_long n h) p
+pub pass_number : (wanted next : Wanted) (n : ℕ) (ws : List (List ℕ)) → ((w : List ℕ) → after wanted w ≡ then_wanted (number w) (λ _. next)) → Small n → Pass next ws → Pass wanted (decimal n ∷ ws)
+pass_number wanted next n ws is h p = pass_more wanted (decimal n) ws next (is (decimal n) ∙ ap (λ r. then_wanted r (λ _. next)) (number_decimal n h)) (decimal_long n h) p
 
 pub pass_two : (p n : ℕ) → Small p → Small n → Pass want.Price (decimal p ∷ decimal n ∷ [])
 pass_two p n h k = pass_number want.Price want.Shares p _ (λ w. refl) h (pass_number want.Shares want.End n [] (λ w. refl) k pass_end)
@@ -66,7 +66,7 @@ pass_routing Type2 v m h = pass_more want.Routing _ _ want.Mtv refl (lit< tt) (p
 pub pass_ilo_side : (s : Side) (p n : ℕ) (r : Routing) (v : ℕ) (m : Mark) → Small p → Small n → Small v → Pass want.IloSide (side_bytes s ∷ decimal p ∷ decimal n ∷ routing_bytes r ∷ decimal v ∷ mark_bytes m ∷ [])
 pass_ilo_side s p n r v m h k l =
     let q = pass_number want.IloPrice want.IloShares p _ (λ w. refl) h (pass_number want.IloShares want.Routing n _ (λ w. refl) k (pass_routing r v m l)) in
-    pass_more want.IloSide (side_bytes s) _ want.IloPrice (ap (λ x. then x (λ _. want.IloPrice)) (side_reads s)) (long s) q
+    pass_more want.IloSide (side_bytes s) _ want.IloPrice (ap (λ x. then_wanted x (λ _. want.IloPrice)) (side_reads s)) (long s) q
   where
     long : (t : Side) → 0 < length (side_bytes t)
     long Buy = lit< tt
@@ -208,14 +208,14 @@ missing false m e h = let z : ◌≡◌ {A = ℕ} 0 1 = cc in omega arith
 
 -- one field, whatever it says
 module _ {A : Type 0} (read : List ℕ → Result A Fault) (write : A → List ℕ) (Good : A → Type 0) (is : (w : List ℕ) (a : A) → read w ≡ Ok a → Good a × (w ≡ write a))
-    (wanted : Wanted) (next : A → Wanted) (more : is_end wanted ≡ false) (how : (w : List ℕ) → after wanted w ≡ then (read w) next) where
+    (wanted : Wanted) (next : A → Wanted) (more : is_end wanted ≡ false) (how : (w : List ℕ) → after wanted w ≡ then_wanted (read w) next) where
   began : (ws : List (List ℕ)) → Passed wanted ws → Began write Good next ws
   began [] p = absurd (missing (is_end wanted) (record { fault = Missing; place = p.at - 1 }) more p.clean)
   began (w ∷ ws) p =
       let s = stepped wanted w ws p in
       by_value (read w) refl (sym (how w) ∙ s.reads) s.passed
     where
-      by_value : {n : Wanted} (r : Result A Fault) → read w ≡ r → then r next ≡ Ok n → Passed n ws → Began write Good next (w ∷ ws)
+      by_value : {n : Wanted} (r : Result A Fault) → read w ≡ r → then_wanted r next ≡ Ok n → Passed n ws → Began write Good next (w ∷ ws)
       by_value {n} (Ok a) e h q =
           let j : next a ≡ n = cc in
           record { value = a; rest = ws; good = (is w a e).0; is = ap (λ v. v ∷ ws) (is w a e).1; passed = subst (λ m. Passed m ws) (sym j) q }
@@ -230,19 +230,19 @@ ended (w ∷ ws) p = absurd (let s = (stepped want.End w ws p).reads in let z : 
 abbrev Any : {A : Type 0} → A → Type 0
 Any a = Unit {0}
 
-number_began : (wanted next : Wanted) → is_end wanted ≡ false → ((w : List ℕ) → after wanted w ≡ then (number w) (λ _. next)) → (ws : List (List ℕ)) → Passed wanted ws → Began decimal Small (λ _. next) ws
+number_began : (wanted next : Wanted) → is_end wanted ≡ false → ((w : List ℕ) → after wanted w ≡ then_wanted (number w) (λ _. next)) → (ws : List (List ℕ)) → Passed wanted ws → Began decimal Small (λ _. next) ws
 number_began wanted next m h = began number decimal Small number_is wanted (λ _. next) m h
 
-side_began : (wanted next : Wanted) → is_end wanted ≡ false → ((w : List ℕ) → after wanted w ≡ then (side_letter w) (λ _. next)) → (ws : List (List ℕ)) → Passed wanted ws → Began side_bytes Any (λ _. next) ws
+side_began : (wanted next : Wanted) → is_end wanted ≡ false → ((w : List ℕ) → after wanted w ≡ then_wanted (side_letter w) (λ _. next)) → (ws : List (List ℕ)) → Passed wanted ws → Began side_bytes Any (λ _. next) ws
 side_began wanted next m h = began side_letter side_bytes Any (λ w s e. (tt, side_is w s e)) wanted (λ _. next) m h
 
 -- the last word
-last_number : (wanted : Wanted) → is_end wanted ≡ false → ((w : List ℕ) → after wanted w ≡ then (number w) (λ _. want.End)) → (ws : List (List ℕ)) → Passed wanted ws → (n : ℕ) × Small n × (ws ≡ decimal n ∷ [])
+last_number : (wanted : Wanted) → is_end wanted ≡ false → ((w : List ℕ) → after wanted w ≡ then_wanted (number w) (λ _. want.End)) → (ws : List (List ℕ)) → Passed wanted ws → (n : ℕ) × Small n × (ws ≡ decimal n ∷ [])
 last_number wanted m h ws p =
     let a = number_began wanted want.End m h ws p in
     (a.value, a.good, a.is ∙ ap (λ r. decimal a.value ∷ r) (ended a.rest a.passed))
 
-two_numbers : (wanted : Wanted) → is_end wanted ≡ false → ((w : List ℕ) → after wanted w ≡ then (number w) (λ _. want.Shares)) → (ws : List (List ℕ)) → Passed wanted ws → (m n : ℕ) × Small m × Small n × (ws ≡ decimal m ∷ decimal n ∷ [])
+two_numbers : (wanted : Wanted) → is_end wanted ≡ false → ((w : List ℕ) → after wanted w ≡ then_wanted (number w) (λ _. want.Shares)) → (ws : List (List ℕ)) → Passed wanted ws → (m n : ℕ) × Small m × Small n × (ws ≡ decimal m ∷ decimal n ∷ [])
 two_numbers wanted m h ws p =
     let a = number_began wanted want.Shares m h ws p in
     let b = last_number want.Shares refl (λ w. refl) a.rest a.passed in
@@ -305,8 +305,8 @@ new_called ws p =
         (λ t h. absurd (let z : ◌≡◌ {A = ℕ} 0 1 = cc in omega arith))
         e
 
-    how : (w : List ℕ) → after want.Label w ≡ then (labelled w) (λ _. want.Kind)
-    how w = by_test (is_label w) (λ b. ◌≡◌ {A = Result Wanted Fault} (cond b (Ok want.Kind) (Err BadLabel)) (then {A = List ℕ} (cond b (Ok w) (Err BadLabel)) (λ _. want.Kind))) (λ t. refl) (λ t. refl)
+    how : (w : List ℕ) → after want.Label w ≡ then_wanted (labelled w) (λ _. want.Kind)
+    how w = by_test (is_label w) (λ b. ◌≡◌ {A = Result Wanted Fault} (cond b (Ok want.Kind) (Err BadLabel)) (then_wanted {A = List ℕ} (cond b (Ok w) (Err BadLabel)) (λ _. want.Kind))) (λ t. refl) (λ t. refl)
 
 called : (l : Letter) (ws : List (List ℕ)) → Passed (begun l) ws → Called l ws
 called letter.New ws p = new_called ws p

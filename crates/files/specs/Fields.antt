@@ -101,27 +101,27 @@ sided kind.Dark = want.Side
 sided kind.Olo = want.Side
 sided kind.Ilo = want.IloSide
 
-abbrev pub then : {A : Type 0} → Result A Fault → (A → Wanted) → Result Wanted Fault
-then (Ok a) next = Ok (next a)
-then (Err e) next = Err e
+abbrev pub then_wanted : {A : Type 0} → Result A Fault → (A → Wanted) → Result Wanted Fault
+then_wanted (Ok a) next = Ok (next a)
+then_wanted (Err e) next = Err e
 
 -- what is wanted behind a field
 abbrev pub after : Wanted → List ℕ → Result Wanted Fault
-after want.First w = then (first_letter w) begun
+after want.First w = then_wanted (first_letter w) begun
 after want.Label w = cond (is_label w) (Ok want.Kind) (Err BadLabel)
-after want.Kind w = then (kind_letter w) sided
-after want.Side w = then (side_letter w) (λ _. want.Price)
-after want.Price w = then (number w) (λ _. want.Shares)
-after want.Shares w = then (number w) (λ _. want.End)
-after want.IloSide w = then (side_letter w) (λ _. want.IloPrice)
-after want.IloPrice w = then (number w) (λ _. want.IloShares)
-after want.IloShares w = then (number w) (λ _. want.Routing)
-after want.Routing w = then (routing_digit w) (λ _. want.Mtv)
-after want.Mtv w = then (number w) (λ _. want.Mark)
-after want.Mark w = then (mark_letter w) (λ _. want.End)
-after want.CutArrival w = then (number w) (λ _. want.Shares)
-after want.CancelArrival w = then (number w) (λ _. want.End)
-after want.Market w = then (number w) (λ _. want.Side)
+after want.Kind w = then_wanted (kind_letter w) sided
+after want.Side w = then_wanted (side_letter w) (λ _. want.Price)
+after want.Price w = then_wanted (number w) (λ _. want.Shares)
+after want.Shares w = then_wanted (number w) (λ _. want.End)
+after want.IloSide w = then_wanted (side_letter w) (λ _. want.IloPrice)
+after want.IloPrice w = then_wanted (number w) (λ _. want.IloShares)
+after want.IloShares w = then_wanted (number w) (λ _. want.Routing)
+after want.Routing w = then_wanted (routing_digit w) (λ _. want.Mtv)
+after want.Mtv w = then_wanted (number w) (λ _. want.Mark)
+after want.Mark w = then_wanted (mark_letter w) (λ _. want.End)
+after want.CutArrival w = then_wanted (number w) (λ _. want.Shares)
+after want.CancelArrival w = then_wanted (number w) (λ _. want.End)
+after want.Market w = then_wanted (number w) (λ _. want.Side)
 after want.End w = Err Surplus
 
 abbrev pub is_end : Wanted → Bool

@@ -2,7 +2,7 @@
 ghost use Rattle.std.specs.Prelude.{◌≡◌, ◌+◌, ◌≤◌, length, drop, if◌then◌else◌, Some, None};
 ghost use Rattle.files.specs.declared.types.Alphabet.TheVariants.{Digits};
 ghost use Rattle.files.specs.declared.types.Fault.TheVariants.{TooLong, NotANumber};
-ghost use Rattle.files.specs.Fields.{belongs, every, figure, number, is_label, sole, first_letter, kind_letter, side_letter, routing_digit, mark_letter, begun, sided, then, after, is_end, read_field, word};
+ghost use Rattle.files.specs.Fields.{belongs, every, figure, number, is_label, sole, first_letter, kind_letter, side_letter, routing_digit, mark_letter, begun, sided, then_wanted, after, is_end, read_field, word};
 ghost use Rattle.files.specs.declared.types.Wanted.TheVariants.{Label, Mtv, End};
 
 use crate::types::{Alphabet, Fault, KindLetter, Letter, Wanted};
@@ -172,7 +172,7 @@ pub fn is_end(wanted: Wanted) -> bool
 
 // What is wanted behind a number, which `next` says.
 fn after_number(field: &[u8], next: Wanted) -> Result<Wanted, Fault>
-    ensures { result ≡ then (number field.now) (λ _. next) }
+    ensures { result ≡ then_wanted (number field.now) (λ _. next) }
 {
     match read_number(field) {
         Ok(_) => Ok(next),
@@ -181,7 +181,7 @@ fn after_number(field: &[u8], next: Wanted) -> Result<Wanted, Fault>
 }
 
 fn after_side(field: &[u8], next: Wanted) -> Result<Wanted, Fault>
-    ensures { result ≡ then (side_letter field.now) (λ _. next) }
+    ensures { result ≡ then_wanted (side_letter field.now) (λ _. next) }
 {
     match read_side(field) {
         Ok(_) => Ok(next),
@@ -190,7 +190,7 @@ fn after_side(field: &[u8], next: Wanted) -> Result<Wanted, Fault>
 }
 
 fn after_first(field: &[u8]) -> Result<Wanted, Fault>
-    ensures { result ≡ then (first_letter field.now) begun }
+    ensures { result ≡ then_wanted (first_letter field.now) begun }
 {
     match read_first_letter(field) {
         Ok(letter) => Ok(wanted_behind(letter)),
@@ -199,7 +199,7 @@ fn after_first(field: &[u8]) -> Result<Wanted, Fault>
 }
 
 fn after_kind(field: &[u8]) -> Result<Wanted, Fault>
-    ensures { result ≡ then (kind_letter field.now) sided }
+    ensures { result ≡ then_wanted (kind_letter field.now) sided }
 {
     match read_kind_letter(field) {
         Ok(kind) => Ok(wanted_for(kind)),
@@ -208,7 +208,7 @@ fn after_kind(field: &[u8]) -> Result<Wanted, Fault>
 }
 
 fn after_routing(field: &[u8]) -> Result<Wanted, Fault>
-    ensures { result ≡ then (routing_digit field.now) (λ _. Mtv) }
+    ensures { result ≡ then_wanted (routing_digit field.now) (λ _. Mtv) }
 {
     match read_routing(field) {
         Ok(_) => Ok(Wanted::Mtv),
@@ -217,7 +217,7 @@ fn after_routing(field: &[u8]) -> Result<Wanted, Fault>
 }
 
 fn after_mark(field: &[u8]) -> Result<Wanted, Fault>
-    ensures { result ≡ then (mark_letter field.now) (λ _. End) }
+    ensures { result ≡ then_wanted (mark_letter field.now) (λ _. End) }
 {
     match read_mark(field) {
         Ok(_) => Ok(Wanted::End),

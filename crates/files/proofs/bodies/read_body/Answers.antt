@@ -4,7 +4,7 @@ use Rattle.files.proofs.Parting.{line_begun, no_line}
 use Rattle.files.proofs.bodies.read_body.Goals as goal
 
 pub returns-in_err-letter : goal.returns-in_err-letter
-returns-in_err-letter c = ap line_in c.from-residual.ensures ∙ sym (no_line c.args.body.now c.in_err-letter.ensures)
+returns-in_err-letter c = ap line_in c.from_residual.ensures ∙ sym (no_line c.args.body.now c.in_err-letter.ensures)
 
 pub returns-in-New : goal.returns-in-New
 returns-in-New c =
