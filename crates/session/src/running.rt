@@ -111,8 +111,8 @@ fn play<R: Ranking + Copy, B: Board>(
     requires handed { (length bids.old ≡ 128) × (length offers.old ≡ 128) × (length report.old ≡ 144) }
     requires label { length (label_text (line_of body.now)) ≤ 12 }
     requires room { at + 6681 ≤ length listing.old }
-    ensures wrote { Wrote at listing.old result listing.new (entry_text (line_of body.now) (entry (call_of (line_of body.now)) 144 (apply (terms (ranked book.old.ranking)) (held book.old bids.old offers.old (quotes board.old)) (call_of (line_of body.now)) 144))) }
-    ensures market { held book.new bids.new offers.new (quotes board.new) ≡ (apply (terms (ranked book.old.ranking)) (held book.old bids.old offers.old (quotes board.old)) (call_of (line_of body.now)) 144).market }
+    ensures wrote { Wrote at listing.old result listing.new (entry_text (line_of body.now) (entry (call_of (line_of body.now)) 144 (apply (terms (R.ranked book.old.ranking)) (held book.old bids.old offers.old (B.quotes board.old)) (call_of (line_of body.now)) 144))) }
+    ensures market { held book.new bids.new offers.new (B.quotes board.new) ≡ (apply (terms (R.ranked book.old.ranking)) (held book.old bids.old offers.old (B.quotes board.old)) (call_of (line_of body.now)) 144).market }
     ensures ranking { book.new.ranking ≡ book.old.ranking }
     ensures within { result ≤ at + 6681 }
 {
@@ -134,9 +134,9 @@ fn play_all<R: Ranking + Copy, B: Board>(
 ) -> usize
     requires read { (read_file file.now ≡ Ok (lines_in file.now)) × (count ≡ length (lines_in file.now)) }
     requires handed { (length bids.old ≡ 128) × (length offers.old ≡ 128) × (length report.old ≡ 144) }
-    requires room { length (entries_text (lines_in file.now) (tape (terms (ranked book.old.ranking)) (held book.old bids.old offers.old (quotes board.old)) (calls (lines_in file.now)))) + 6681 ≤ length listing.old }
-    ensures wrote { Wrote 0 listing.old result listing.new (entries_text (lines_in file.now) (tape (terms (ranked book.old.ranking)) (held book.old bids.old offers.old (quotes board.old)) (calls (lines_in file.now)))) }
-    ensures market { held book.new bids.new offers.new (quotes board.new) ≡ after (terms (ranked book.old.ranking)) (held book.old bids.old offers.old (quotes board.old)) (calls (lines_in file.now)) }
+    requires room { length (entries_text (lines_in file.now) (tape (terms (R.ranked book.old.ranking)) (held book.old bids.old offers.old (B.quotes board.old)) (calls (lines_in file.now)))) + 6681 ≤ length listing.old }
+    ensures wrote { Wrote 0 listing.old result listing.new (entries_text (lines_in file.now) (tape (terms (R.ranked book.old.ranking)) (held book.old bids.old offers.old (B.quotes board.old)) (calls (lines_in file.now)))) }
+    ensures market { held book.new bids.new offers.new (B.quotes board.new) ≡ after (terms (R.ranked book.old.ranking)) (held book.old bids.old offers.old (B.quotes board.old)) (calls (lines_in file.now)) }
     ensures within { result + 6681 ≤ length listing.old }
 {
     let mut at = 0;
@@ -154,10 +154,10 @@ pub fn run<R: Ranking + Copy, B: Board>(
     file: &[u8],
     listing: &mut [u8],
 ) -> Result<usize, Refusal>
-    ensures answer { result ≡ answer_of (ranked ranking) (quotes board.old) (session_lines (length listing.old) file.now) }
-    ensures listing { listing.new ≡ listing_after (ranked ranking) (quotes board.old) (session_lines (length listing.old) file.now) listing.old }
-    ensures board { quotes board.new ≡ quotes_after (ranked ranking) (quotes board.old) (session_lines (length listing.old) file.now) }
-    ensures fair { FairSession (ranked ranking) (quotes board.old) (session_lines (length listing.old) file.now) }
+    ensures answer { result ≡ answer_of (R.ranked ranking) (B.quotes board.old) (session_lines (length listing.old) file.now) }
+    ensures listing { listing.new ≡ listing_after (R.ranked ranking) (B.quotes board.old) (session_lines (length listing.old) file.now) listing.old }
+    ensures board { B.quotes board.new ≡ quotes_after (R.ranked ranking) (B.quotes board.old) (session_lines (length listing.old) file.now) }
+    ensures fair { FairSession (R.ranked ranking) (B.quotes board.old) (session_lines (length listing.old) file.now) }
     ensures short { Short result }
 {
     if listing.len() < LISTING_BYTES {
