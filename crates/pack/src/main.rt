@@ -23,7 +23,7 @@ fn run(rt: &HostRuntime) -> anyhow::Result<()> {
             rt.stdout().write_all(&file[0..size])?;
             Ok(())
         }
-        Err(error) => Err(message(error).into()),
+        Err(error) => Err(anyhow::Error::msg(message(error))),
     }
 }
 

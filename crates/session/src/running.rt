@@ -208,9 +208,9 @@ pub fn print_session(file: &[u8], page: &mut [u8; LISTING_BYTES]) -> usize
     }
 }
 
-// The entry of the C host: the length of the listing, or 100,000 plus the number of the refusal.
-#[unsafe(no_mangle)]
-pub extern "C" fn rig_session(file: &[u8], listing: &mut [u8]) -> u32
+// The entry of the C host, which crate session_c exports under this name: the length of the listing,
+// or 100,000 plus the number of the refusal.
+pub fn rig_session(file: &[u8], listing: &mut [u8]) -> u32
     ensures answer { result ≡ host_number (answer_of size_time no_quotes (session_lines (length listing.old) file.now)) }
     ensures listing { listing.new ≡ listing_after size_time no_quotes (session_lines (length listing.old) file.now) listing.old }
     ensures fair { FairSession size_time no_quotes (session_lines (length listing.old) file.now) }

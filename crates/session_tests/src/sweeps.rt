@@ -5,19 +5,19 @@ use session::running::{LISTING_BYTES, run_session};
 use std::process::Abort;
 use std::test::Fail;
 
-// Packs a text, plays it and compares the listing.
-fn plays(rt: &impl Abort, text: &[u8], expected: &[u8]) -> Result<(), Fail> {
+// Packs a text, plays it and compares the listing; a failure says the session's name.
+fn plays(rt: &impl Abort, name: &str, text: &[u8], expected: &[u8]) -> Result<(), Fail> {
     let mut file = [0u8; 1024];
     let mut listing = [0u8; LISTING_BYTES];
     let Ok(size) = pack(text, &mut file) else {
-        return Err(Fail::new("not packed"));
+        return Err(Fail::new(format_args!("{name}: not packed")));
     };
     match run_session(&file[0..size], &mut listing) {
         Ok(length) => {
-            assert!(rt; &listing[0..length] == expected);
+            assert!(rt; &listing[0..length] == expected, "{name}");
             Ok(())
         },
-        Err(_) => Err(Fail::new("refused")),
+        Err(_) => Err(Fail::new(format_args!("{name}: refused"))),
     }
 }
 
@@ -225,17 +225,17 @@ LI 1\n";
 
 #[test]
 fn known_sweeps(rt: HostRuntime) -> Result<(), Fail> {
-    plays(&rt, TWO_ORDERS, TWO_ORDERS_LISTING).note("two-orders")?;
-    plays(&rt, SWEEP_01, SWEEP_01_LISTING).note("sweep-01")?;
-    plays(&rt, SWEEP_02, SWEEP_02_LISTING).note("sweep-02")?;
-    plays(&rt, SWEEP_03, SWEEP_03_LISTING).note("sweep-03")?;
-    plays(&rt, SWEEP_04, SWEEP_04_LISTING).note("sweep-04")?;
-    plays(&rt, SWEEP_05, SWEEP_05_LISTING).note("sweep-05")?;
-    plays(&rt, SWEEP_06, SWEEP_06_LISTING).note("sweep-06")?;
-    plays(&rt, SWEEP_07, SWEEP_07_LISTING).note("sweep-07")?;
-    plays(&rt, SWEEP_08, SWEEP_08_LISTING).note("sweep-08")?;
-    plays(&rt, SWEEP_09, SWEEP_09_LISTING).note("sweep-09")?;
-    plays(&rt, SWEEP_10, SWEEP_10_LISTING).note("sweep-10")?;
-    plays(&rt, SWEEP_11, SWEEP_11_LISTING).note("sweep-11")?;
-    plays(&rt, SWEEP_12, SWEEP_12_LISTING).note("sweep-12")
+    plays(&rt, "two-orders", TWO_ORDERS, TWO_ORDERS_LISTING)?;
+    plays(&rt, "sweep-01", SWEEP_01, SWEEP_01_LISTING)?;
+    plays(&rt, "sweep-02", SWEEP_02, SWEEP_02_LISTING)?;
+    plays(&rt, "sweep-03", SWEEP_03, SWEEP_03_LISTING)?;
+    plays(&rt, "sweep-04", SWEEP_04, SWEEP_04_LISTING)?;
+    plays(&rt, "sweep-05", SWEEP_05, SWEEP_05_LISTING)?;
+    plays(&rt, "sweep-06", SWEEP_06, SWEEP_06_LISTING)?;
+    plays(&rt, "sweep-07", SWEEP_07, SWEEP_07_LISTING)?;
+    plays(&rt, "sweep-08", SWEEP_08, SWEEP_08_LISTING)?;
+    plays(&rt, "sweep-09", SWEEP_09, SWEEP_09_LISTING)?;
+    plays(&rt, "sweep-10", SWEEP_10, SWEEP_10_LISTING)?;
+    plays(&rt, "sweep-11", SWEEP_11, SWEEP_11_LISTING)?;
+    plays(&rt, "sweep-12", SWEEP_12, SWEEP_12_LISTING)
 }
