@@ -1,11 +1,11 @@
 -- Conditions 1 and 4 by a lowest and a highest price. Assumes nothing.
-use Rattle.std.proofs.Common.{◌≡◌, ℕ, ◌^◌, ◌<◌, ◌≤◌, min, max, Bool, true, false, cond, not, ◌&&◌, ◌||◌, ltb, leb, List, sym, refl, ap, ◌∙◌, arith}
+use Rattle.std.proofs.Common.{◌≡◌, ℕ, ◌^◌, ◌<◌, min, max, Bool, true, false, cond, not, ◌&&◌, ltb, leb, List, refl, ap, ◌∙◌, arith}
 use Rattle.std.proofs.lemmas.Bool.Decides.{nat_tests}
 use Rattle.rules.specs.declared.types.Order.{Order}
 use Rattle.rules.specs.Orders.{meets}
 use Rattle.rules.specs.Trading.{Bests, within_limit, unbarred, reaches_mtv, first_four, behind_displayed, worth, passes}
 use Rattle.book.specs.declared.types.Prices.{Prices}
-use Rattle.book.specs.Prices.{between, Bounds, four_between, worth_between, passes_between}
+use Rattle.book.specs.Prices.{Bounds, four_between, worth_between, passes_between}
 
 -- a buyer's limit and the offers are bounds from above, a seller's limit and the bids from below
 pub under : (limit high p : ℕ) (low : Bool) → (low && leb p (min limit high)) ≡ (not (ltb limit p) && (low && leb p high))

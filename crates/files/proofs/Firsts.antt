@@ -1,20 +1,19 @@
 -- The first malformed field of a body: up to it the body begins as some lawful line, with it as none. Assumes nothing.
-use Rattle.std.proofs.Common.{◌≡◌, ℕ, zero, suc, ◌+◌, ◌-◌, ◌<◌, ◌≤◌, min, Bool, true, false, cond, ◌&&◌, eqb, ◌⊎◌, List, [], ◌∷◌, ◌++◌, length, take, Some, None, Ok, Err, codes, decimal, Option, Result, sym, refl, ap, ◌∙◌, subst, inl, inr, ⊎_elim, arith, lit<}
-use Rattle.std.specs.List.{flat_map}
+use Rattle.std.proofs.Common.{◌≡◌, ℕ, zero, suc, ◌+◌, ◌-◌, ◌<◌, ◌≤◌, Bool, true, false, cond, ◌⊎◌, List, [], ◌∷◌, ◌++◌, length, take, Some, None, Ok, Err, codes, Option, Result, sym, refl, ap, ◌∙◌, subst, inl, inr, ⊎_elim, arith, lit<}
 use Rattle.std.proofs.lemmas.List.{take_at, length-append}
 use Rattle.std.proofs.lemmas.Bool.{ne_eqb}
-use Rattle.market.specs.declared.types.Side.TheVariants.{Buy, Sell}
-use Rattle.rules.specs.declared.types.Kind.TheVariants.{Displayed, Dark, Olo, Ilo}
-use Rattle.rules.specs.declared.types.Routing.TheVariants.{Type1, Type2}
+use Rattle.market.specs.declared.types.Side.TheVariants.{Buy}
+use Rattle.rules.specs.declared.types.Kind.TheVariants.{Displayed}
+use Rattle.rules.specs.declared.types.Routing.TheVariants.{Type1}
 use Rattle.rules.specs.declared.types.Mark.TheVariants as mark
 use Rattle.files.specs.declared.types.Fault.{Fault}
 use Rattle.files.specs.declared.types.Fault.TheVariants.{Missing, Surplus}
 use Rattle.files.specs.declared.types.Wanted.{Wanted}
 use Rattle.files.specs.declared.types.Wanted.TheVariants as want
-use Rattle.files.specs.Fields.{Malformed, none, after, is_end, read_field, fault_from, fault_past, fault_of, fields}
-use Rattle.files.specs.Lines.{Line, Cancel}
-use Rattle.files.specs.Written.{words, spaced, LawfulLine}
-use Rattle.files.specs.Faults.{begins, BeginsLine, FirstMalformed, RefusedFirst}
+use Rattle.files.specs.Fields.{Malformed, none, after, is_end, read_field, fault_from, fault_past, fields}
+use Rattle.files.specs.Lines.{Cancel}
+use Rattle.files.specs.Written.{words, spaced}
+use Rattle.files.specs.Faults.{begins, RefusedFirst}
 use Rattle.files.proofs.Words.{by_test}
 use Rattle.files.proofs.Spacing.{spaced_fields}
 use Rattle.files.proofs.Lines.{Pass, Passed, pass_more, pass_end, pass_number, pass_two, pass_side, pass_mark, pass_routing, pass_ilo_side, pass_kind, pass_words, stepped, missing, read_after, words_lawful}

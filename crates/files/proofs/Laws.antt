@@ -1,5 +1,5 @@
 -- What reading a file has to do with writing one. Assumes nothing.
-use Rattle.std.proofs.Common.{◌≡◌, ℕ, zero, suc, ◌+◌, ◌-◌, ◌*◌, ◌<◌, ◌≤◌, Bool, true, false, cond, ◌||◌, eqb, ltb, List, [], ◌∷◌, ◌++◌, map, length, get_or, Some, None, Ok, Err, Option, Result, sym, refl, ap, ◌∙◌, subst, ⊎_elim, zero-add, arith, w8, Fits}
+use Rattle.std.proofs.Common.{◌≡◌, ℕ, zero, suc, ◌+◌, ◌*◌, ◌<◌, ◌≤◌, false, cond, ◌||◌, ltb, List, [], ◌∷◌, map, length, get_or, Some, None, Ok, Err, Option, Result, sym, refl, ap, ◌∙◌, subst, ⊎_elim, zero-add, arith, w8, Fits}
 use Rattle.std.specs.List.{AllByRecursion as All}
 use Rattle.std.proofs.lemmas.List.{length-map}
 use Rattle.std.proofs.ByRecursion.{All-from_get_or}
@@ -8,13 +8,13 @@ use Rattle.std.proofs.lemmas.Bool.Decides.{nat_tests}
 use Rattle.market.specs.declared.types.Refusal.{Refusal}
 use Rattle.market.specs.declared.types.Refusal.TheVariants.{FileSize, Contents, Body}
 use Rattle.shelf.specs.Standing.{nth}
-use Rattle.files.specs.Fields.{Malformed, fault_of}
+use Rattle.files.specs.Fields.{fault_of}
 use Rattle.files.specs.Lines.{Line, read_line}
 use Rattle.files.specs.Files.{count_of, offset_of, body_in, wrong_size, wrong_entry, wrong_body, refusal_of, refused, checked, line_at, lines_from, taken_in, read_file, counted}
 use Rattle.files.specs.Written.{body_bytes, layout, file_bytes, LawfulLine, Fitting, Bytes, ReadsBack, OnlyWritten, OneReading, Answered, ReadsExactly}
 use Rattle.files.proofs.Words.{by_test}
 use Rattle.files.proofs.Lines.{body_clean, body_reads, body_lawful}
-use Rattle.files.proofs.LayingOut.{bodies_from, length_bodies, right_layout, Laid, laid}
+use Rattle.files.proofs.LayingOut.{bodies_from, length_bodies, right_layout, laid}
 
 pub by_option : {X : Type 0} (o : Option X) (P : Option X → Type 0) → (o ≡ None → P None) → ((x : X) → o ≡ Some x → P (Some x)) → P o
 by_option None P n s = n refl

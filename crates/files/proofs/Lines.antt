@@ -1,5 +1,5 @@
 -- The words of a lawful line have no fault and say that line; and words without a fault are those of a lawful line. Assumes nothing.
-use Rattle.std.proofs.Common.{◌≡◌, ℕ, zero, suc, ◌+◌, ◌-◌, ◌<◌, ◌≤◌, Bool, true, false, cond, ◌&&◌, eqb, ltb, leb, List, [], ◌∷◌, ◌++◌, length, drop, Some, None, Ok, Err, decimal, Option, Result, sym, refl, ap, ◌∙◌, subst, arith, lit<}
+use Rattle.std.proofs.Common.{◌≡◌, ℕ, ◌+◌, ◌-◌, ◌<◌, Bool, true, false, cond, ◌&&◌, eqb, ltb, leb, List, [], ◌∷◌, length, Some, None, Ok, Err, decimal, Option, Result, sym, refl, ap, ◌∙◌, subst, arith, lit<}
 use Rattle.std.specs.List.{AllByRecursion as All}
 use Rattle.std.proofs.lemmas.Bool.{and_parts, ltb-true, cond-true}
 use Rattle.std.proofs.lemmas.Bool.Decides.{nat_tests}
@@ -21,7 +21,7 @@ use Rattle.files.specs.declared.types.KindLetter.TheVariants as kind
 use Rattle.files.specs.declared.types.Wanted.{Wanted}
 use Rattle.files.specs.declared.types.Wanted.TheVariants as want
 use Rattle.files.specs.Fields.{Malformed, none, is_label, number, first_letter, kind_letter, side_letter, routing_digit, mark_letter, begun, sided, then_wanted, after, is_end, read_field, fault_from, fault_past, fault_of, fields}
-use Rattle.files.specs.Lines.{Line, New, Cut, Cancel, Post, and_then, said, read_words, read_line, label_in, only_at, kind_from}
+use Rattle.files.specs.Lines.{Line, New, Cut, Cancel, Post, and_then, said, read_words, read_line, label_in, kind_from}
 use Rattle.files.specs.Written.{side_bytes, routing_bytes, mark_bytes, kind_bytes, ilo_words, words, spaced, body_bytes, Small, LawfulKind, LawfulLine}
 use Rattle.files.proofs.Words.{by_test}
 use Rattle.files.proofs.Spacing.{Unspaced, spaced_fields, fields_spaced}

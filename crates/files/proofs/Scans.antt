@@ -1,9 +1,8 @@
 -- Loops over the bytes of a field or a body, by what is left of them. Assumes nothing.
-use Rattle.std.proofs.Common.{◌≡◌, ℕ, zero, suc, ◌+◌, ◌-◌, ◌*◌, ◌^◌, ◌<◌, ◌≤◌, Bool, true, false, cond, ◌&&◌, eqb, List, [], ◌∷◌, length, get_or, take, drop, sym, refl, ap, ◌∙◌, pow-suc, add-one, arith, lit<}
+use Rattle.std.proofs.Common.{◌≡◌, ℕ, ◌+◌, ◌-◌, ◌*◌, ◌^◌, ◌<◌, ◌≤◌, Bool, true, cond, ◌&&◌, eqb, List, [], ◌∷◌, length, get_or, drop, ap, pow-suc, add-one, arith, lit<}
 use native.Mathlib.Nat.{pow-le-pow_right}
 use Rattle.std.proofs.lemmas.List.{drop_more, drop_all}
-use Rattle.files.specs.declared.types.Alphabet.TheVariants.{Digits}
-use Rattle.files.specs.Fields.{every, belongs, figure, word}
+use Rattle.files.specs.Fields.{every, figure, word}
 
 pub every_more : (p : ℕ → Bool) (xs : List ℕ) (i : ℕ) → i < length xs → every p (drop i xs) ≡ (p (get_or xs i 0) && every p (drop (i + 1) xs))
 every_more p xs i h = ap (every p) (drop_more xs i 0 h)

@@ -1,6 +1,5 @@
 -- A field says a value exactly if it is that value written. Assumes nothing.
-use Rattle.std.proofs.Common.{◌≡◌, ℕ, zero, suc, ◌^◌, ◌<◌, ◌≤◌, Bool, true, false, cond, ◌&&◌, eqb, ltb, List, [], ◌∷◌, ◌++◌, length, get_or, Some, None, Ok, Err, codes, decimal, Option, Result, sym, refl, ap, ◌∙◌, ⊎_elim, arith, lit<, rules}
-use Rattle.std.specs.List.{AllByRecursion as All}
+use Rattle.std.proofs.Common.{◌≡◌, ℕ, ◌^◌, ◌<◌, ◌≤◌, Bool, true, false, cond, ◌&&◌, eqb, ltb, List, [], ◌∷◌, length, get_or, Ok, Err, codes, decimal, Result, sym, refl, ap, ◌∙◌, ⊎_elim, arith, rules}
 use Rattle.std.proofs.lemmas.Str.Parse.{IsNumeralModel, numerals_by_fold, digits_value_short}
 use Rattle.std.proofs.lemmas.Fmt.{digits_decimal, digits_value-decimal, decimal_nonempty, length-decimal-le, first_decimal, decimal_digit, decimal-digits_value}
 use Rattle.std.proofs.lemmas.Bool.{cases_lt, cases_Bool, and_parts}
@@ -14,14 +13,13 @@ use Rattle.rules.specs.declared.types.Mark.TheVariants as mark
 use Rattle.files.specs.declared.types.Alphabet.{Alphabet}
 use Rattle.files.specs.declared.types.Alphabet.TheVariants.{Digits, LabelLetters}
 use Rattle.files.specs.declared.types.Fault.{Fault}
-use Rattle.files.specs.declared.types.Fault.TheVariants.{TooLong, NotANumber, UnknownLetter}
+use Rattle.files.specs.declared.types.Fault.TheVariants.{TooLong, NotANumber}
 use Rattle.files.specs.declared.types.Letter.{Letter}
 use Rattle.files.specs.declared.types.Letter.TheVariants as letter
 use Rattle.files.specs.declared.types.KindLetter.{KindLetter}
 use Rattle.files.specs.declared.types.KindLetter.TheVariants as kind
-use Rattle.files.specs.Fields.{every, belongs, figure, number, is_label, sole, first_letter, kind_letter, side_letter, routing_digit, mark_letter}
+use Rattle.files.specs.Fields.{every, belongs, figure, number, is_label, first_letter, kind_letter, side_letter, routing_digit, mark_letter}
 use Rattle.files.specs.Written.{side_bytes, routing_bytes, mark_bytes, Small}
-use Rattle.files.proofs.Words.{by_test}
 use Rattle.files.proofs.Spacing.{Unspaced}
 
 pub own : IsNumeralModel (λ ds. every (belongs Digits) ds ≡ true) (figure 0)

@@ -1,7 +1,7 @@
 -- Writes into an output, one behind the other. Assumes nothing.
-use Rattle.std.proofs.Common.{◌≡◌, ℕ, ◌+◌, ◌-◌, ◌<◌, ◌≤◌, List, [], ◌∷◌, ◌++◌, length, take, drop, set, sym, refl, ap, ◌∙◌, arith}
+use Rattle.std.proofs.Common.{◌≡◌, ℕ, ◌+◌, ◌<◌, List, [], ◌∷◌, ◌++◌, length, take, drop, set, sym, ap, ◌∙◌, arith}
 use Rattle.shelf.proofs.Cells.{drop_later}
-use Rattle.std.proofs.lemmas.List.{take_more_set, take-set-le, drop-set-lt, append_assoc, length-set, append-nil}
+use Rattle.std.proofs.lemmas.List.{take_more_set, drop-set-lt, append_assoc, length-set, append-nil}
 
 pub two_stand : (xs : List ℕ) (at a b : ℕ) → at + 1 < length xs → take (at + 2) (set (set xs at a) (at + 1) b) ≡ take at xs ++ a ∷ b ∷ []
 two_stand xs at a b h =

@@ -1,6 +1,6 @@
 -- What the first malformed field of a body is, in the words of writing: up to it the body begins as
 -- some lawful line does, with it as none does. Rests on the words of a line and the fields of a body.
-use Rattle.std.specs.Prelude.{◌≡◌, ℕ, zero, suc, ◌+◌, min, List, [], ◌∷◌, length, take, Some, None, ◌≢◌}
+use Rattle.std.specs.Prelude.{◌≡◌, ℕ, zero, suc, ◌+◌, min, List, [], ◌∷◌, length, take, Some, ◌≢◌}
 use Rattle.files.specs.Fields.{Malformed, fields, fault_of}
 use Rattle.files.specs.Lines.{Line}
 use Rattle.files.specs.Written.{words, LawfulLine}

@@ -1,9 +1,9 @@
 -- A session file: its contents, its bodies, and why it is refused.
 -- Rests on the fields of a body.
-use Rattle.std.specs.Prelude.{ℕ, zero, suc, ◌+◌, ◌*◌, Bool, true, false, cond, ◌||◌, List, [], ◌∷◌, length, take, drop, Some, None, Ok, Err, Option, Result, ◌==◌, nat_lt, slice_index}
+use Rattle.std.specs.Prelude.{ℕ, zero, suc, ◌+◌, ◌*◌, Bool, cond, ◌||◌, List, [], ◌∷◌, length, take, drop, Some, None, Ok, Err, Option, Result, ◌==◌, nat_lt, slice_index}
 use Rattle.market.specs.declared.types.Refusal.{Refusal}
 use Rattle.market.specs.declared.types.Refusal.TheVariants.{FileSize, Contents, Body}
-use Rattle.files.specs.Fields.{Malformed, fault_of}
+use Rattle.files.specs.Fields.{fault_of}
 use Rattle.files.specs.Lines.{Line, read_line}
 
 -- a number of 16 bits, low byte first

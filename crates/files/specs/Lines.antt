@@ -4,8 +4,6 @@ use Rattle.std.specs.Prelude.{◌≡◌, ℕ, zero, suc, Bool, true, false, cond
 use Rattle.market.specs.declared.types.Side.{Side}
 use Rattle.rules.specs.declared.types.Kind.{Kind}
 use Rattle.rules.specs.declared.types.Kind.TheVariants.{Displayed, Dark, Olo, Ilo}
-use Rattle.rules.specs.declared.types.Routing.{Routing}
-use Rattle.rules.specs.declared.types.Mark.{Mark}
 use Rattle.shelf.specs.Standing.{nth}
 use Rattle.files.specs.declared.types.Body.{Body}
 use Rattle.files.specs.declared.types.Body.TheVariants as body

@@ -1,6 +1,6 @@
 -- A text of lines, and the session file that is packed from it, whatever the lines hold.
 -- Rests on the layout of a session file.
-use Rattle.std.specs.Prelude.{ℕ, Bool, true, false, cond, List, [], ◌∷◌, ◌++◌, length, drop, Some, None, Ok, Err, Option, Result, ◌==◌, nat_lt}
+use Rattle.std.specs.Prelude.{ℕ, cond, List, [], ◌∷◌, ◌++◌, length, drop, Ok, Err, Result, ◌==◌, nat_lt}
 use Rattle.std.specs.List.{flat_map}
 use Rattle.files.specs.declared.types.PackError.{PackError}
 use Rattle.files.specs.declared.types.PackError.TheVariants.{TooManyLines, TooLarge, NoRoom}

@@ -1,6 +1,6 @@
 -- The law of the tape: each call passes the judge and leaves a kept and matched market, and so does every list of calls.
 -- Rests on the lemmas on refusals, entries, changes and the identifier.
-use Rattle.std.proofs.Common.{◌≡◌, ℕ, suc, ◌+◌, ◌-◌, ◌<◌, ◌≤◌, Bool, true, false, cond, not, ◌&&◌, ◌||◌, eqb, ◌⊎◌, List, [], ◌∷◌, ◌++◌, length, Some, None, Ok, Err, Option, Result, sym, refl, ap, ◌∙◌, subst, inl, inr, arith}
+use Rattle.std.proofs.Common.{◌≡◌, ℕ, suc, ◌+◌, ◌-◌, ◌<◌, ◌≤◌, Bool, true, false, cond, ◌&&◌, ◌||◌, eqb, ◌⊎◌, List, [], ◌∷◌, ◌++◌, length, Some, None, Ok, Err, Option, Result, sym, refl, ap, ◌∙◌, subst, inl, inr, arith}
 use Rattle.std.specs.List.{remove}
 use Rattle.std.proofs.lemmas.Bool.Decides.{nat_tests, not_from_Decides}
 use Rattle.std.proofs.lemmas.Bool.{cases_Bool, cases_lt, cond_both, cond-true, eq-eqb}
@@ -22,8 +22,8 @@ use Rattle.rules.specs.declared.types.Accepted.{Accepted}
 use Rattle.rules.specs.Orders.{is_olo, is_ilo, cancels, too_small}
 use Rattle.rules.specs.Rankings.{Ranking, Ranks, before}
 use Rattle.rules.specs.Sweeps.{less, standing, measured_sweep}
-use Rattle.rules.specs.Calls.{Market, market, fresh, terms, of_side, with_side, Outcome, outcome, accepted, decided, new_order, arriving, enter_refusal, entered, settled, enter, at_rest, open_of, cancel_refusal, cut_refusal, leaves, cut_down, taken_off, moved, cancelled, cut_stayed, cut_to, cancel, cut, post_accepted, post, apply, lit}
-use Rattle.law.specs.Tape.{Account, empty_account, remainder_of, remainder, changed, change, added, reckon_rows, cut_by, reckon_call, reckon}
+use Rattle.rules.specs.Calls.{Market, market, fresh, terms, of_side, with_side, Outcome, outcome, accepted, decided, new_order, arriving, enter_refusal, entered, settled, enter, at_rest, open_of, cancel_refusal, cut_refusal, leaves, cut_down, taken_off, moved, cancelled, cut_stayed, cut_to, cancel, cut, post_accepted, post, apply}
+use Rattle.law.specs.Tape.{Account, empty_account, remainder_of, changed, change, added, reckon_rows, cut_by, reckon_call, reckon}
 use Rattle.law.specs.Judge.{FirstCase, Cases, Outside, TooSmall, resting_on, refusal_of, Sized, FairEntry, FairCall, Judged}
 use Rattle.law.specs.Law.{entry, after, tape, FairTape, TapeLaw, TapeGoesOn, Upholds}
 use Rattle.law.proofs.Branches.{by_test, by_option, none_some}

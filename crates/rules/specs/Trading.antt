@@ -1,6 +1,6 @@
 -- Who may trade: the five conditions, one by one, and the volume that an MTV is measured by.
 -- Rests on the kinds of order and on what a board means.
-use Rattle.std.specs.Prelude.{ℕ, zero, suc, ◌+◌, Bool, true, false, cond, not, ◌&&◌, ◌||◌, List, [], ◌∷◌, Some, None, Option, nat_le}
+use Rattle.std.specs.Prelude.{ℕ, zero, suc, ◌+◌, Bool, true, cond, not, ◌&&◌, ◌||◌, List, [], ◌∷◌, Some, None, Option, nat_le}
 use Rattle.market.specs.declared.types.Side.{Side}
 use Rattle.market.specs.Words.{opposite, better}
 use Rattle.board.specs.declared.types.Quote.{Quote}

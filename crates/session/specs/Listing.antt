@@ -7,7 +7,7 @@ use Rattle.market.specs.Refusals.{number_of, index_of, place_of}
 use Rattle.rules.specs.declared.types.Accepted.{Accepted}
 use Rattle.rules.specs.declared.types.Row.{Row}
 use Rattle.rules.specs.declared.types.Row.TheVariants.{Fill, Route}
-use Rattle.rules.specs.Calls.{Figures, figures}
+use Rattle.rules.specs.Calls.{figures}
 use Rattle.law.specs.Tape.{Entry}
 use Rattle.files.specs.Lines.{Line, New, Cut, Cancel, Post}
 

@@ -1,6 +1,6 @@
 -- What stands on a shelf, as a list, first to last: searching it, reading it and putting in.
 -- Rests on lists alone.
-use Rattle.std.specs.Prelude.{ℕ, zero, suc, Bool, true, false, cond, List, [], ◌∷◌, Some, None, Option}
+use Rattle.std.specs.Prelude.{ℕ, zero, suc, Bool, cond, List, [], ◌∷◌, Some, None, Option}
 use Rattle.shelf.specs.declared.types.Placed.{Placed}
 
 -- the first that passes, with its place; n stand before the list

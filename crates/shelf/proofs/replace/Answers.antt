@@ -1,4 +1,4 @@
-use Rattle.std.proofs.Common.{◌≡◌, ◌<◌, arith}
+use Rattle.std.proofs.Common.{◌<◌, arith}
 use Rattle.std.proofs.lemmas.List.{drop-set-lt}
 use Rattle.shelf.proofs.Shift.{take_set_in}
 use Rattle.shelf.proofs.replace.Goals as goal

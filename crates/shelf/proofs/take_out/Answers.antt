@@ -1,4 +1,4 @@
-use Rattle.std.proofs.Common.{◌≡◌, ◌<◌, ◌≤◌, length, arith}
+use Rattle.std.proofs.Common.{◌<◌, ◌≤◌, length, arith}
 use Rattle.shelf.proofs.Shift.{removed_stands, removed_behind}
 use Rattle.shelf.proofs.take_out.Goals as goal
 

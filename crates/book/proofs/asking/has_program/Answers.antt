@@ -1,4 +1,4 @@
-use Rattle.std.proofs.Common.{◌≡◌, sym, ◌∙◌}
+use Rattle.std.proofs.Common.{sym, ◌∙◌}
 use Rattle.book.proofs.Loops.{program_more, program_stop, program_all}
 use Rattle.book.proofs.asking.has_program.Goals as goal
 

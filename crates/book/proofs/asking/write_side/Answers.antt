@@ -1,6 +1,5 @@
-use Rattle.std.proofs.Common.{◌≡◌, ◌+◌, ◌<◌, length, take, drop, sym, refl, ap, ◌∙◌, arith}
+use Rattle.std.proofs.Common.{◌≡◌, ◌+◌, ◌<◌, length, refl, ◌∙◌, arith}
 use Rattle.std.proofs.lemmas.List.{drop-set-lt, take_all}
-use Rattle.rules.specs.Calls.{standing_row}
 use Rattle.book.proofs.Loops.{rows_more}
 use Rattle.shelf.proofs.Cells.{drop_later}
 use Rattle.book.proofs.asking.write_side.Goals as goal

@@ -1,4 +1,4 @@
-use Rattle.std.proofs.Common.{◌≡◌, sym, ◌∙◌}
+use Rattle.std.proofs.Common.{sym, ◌∙◌}
 use Rattle.book.proofs.Loops.{worse_more, worse_stop, worse_all}
 use Rattle.book.proofs.eligible.all_worse.Goals as goal
 

@@ -1,4 +1,4 @@
-use Rattle.std.proofs.Common.{◌≡◌, ◌+◌, cond, sym, refl, ap, ◌∙◌, arith, rules}
+use Rattle.std.proofs.Common.{◌≡◌, ◌+◌, cond, ap, ◌∙◌, arith, rules}
 use Rattle.market.specs.Words.{opposite}
 use Rattle.rules.specs.Trading.{away_upto, away_volume}
 use Rattle.book.proofs.Loops.{away_more}

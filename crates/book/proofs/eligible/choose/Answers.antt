@@ -1,4 +1,4 @@
-use Rattle.std.proofs.Common.{◌≡◌, sym, ◌∙◌}
+use Rattle.std.proofs.Common.{sym, ◌∙◌}
 use Rattle.shelf.proofs.Searches.{first_more, first_here, first_all}
 use Rattle.rules.specs.Trading.{passes}
 use Rattle.book.specs.Asked.{asked}

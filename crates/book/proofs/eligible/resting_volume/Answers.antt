@@ -1,4 +1,4 @@
-use Rattle.std.proofs.Common.{◌≡◌, ◌∙◌, arith, rules}
+use Rattle.std.proofs.Common.{◌∙◌, arith, rules}
 use Rattle.book.specs.Asked.{asked}
 use Rattle.book.proofs.Loops.{volume_more, volume_all}
 use Rattle.book.proofs.Prices.{worth_is}

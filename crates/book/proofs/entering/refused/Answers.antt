@@ -1,5 +1,4 @@
-use Rattle.std.proofs.Common.{arith, rules}
-use Rattle.std.proofs.lemmas.Bool.Decides.{nat_tests}
+use Rattle.std.proofs.Common.{rules}
 use Rattle.rules.specs.Calls.{enter_refusal}
 use Rattle.book.proofs.entering.refused.Goals as goal
 

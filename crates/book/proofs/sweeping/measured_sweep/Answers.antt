@@ -1,4 +1,4 @@
-use Rattle.std.proofs.Common.{◌≡◌, true, false, not, take, sym, refl, ap, ◌∙◌, arith}
+use Rattle.std.proofs.Common.{true, false, take, sym, refl, ◌∙◌, arith}
 use native.Mathlib.Nat.{sub-zero}
 use Rattle.rules.specs.Sweeps.{standing}
 use Rattle.book.proofs.Steps.{measured_enough, measured_short, not_back}

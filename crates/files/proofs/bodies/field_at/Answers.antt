@@ -1,5 +1,4 @@
-use Rattle.std.proofs.Common.{◌≡◌, ℕ, ◌+◌, ◌-◌, List, [], ◌∷◌, length, take, drop, sym, ap, ◌∙◌, arith}
-use Rattle.files.specs.Fields.{word}
+use Rattle.std.proofs.Common.{◌≡◌, ◌+◌, ◌-◌, ◌∷◌, length, take, drop, sym, ap, ◌∙◌, arith}
 use Rattle.files.specs.Lines.{left}
 use Rattle.files.proofs.Parting.{left_none, left_more}
 use Rattle.files.proofs.Words.{word_between}

@@ -1,7 +1,7 @@
-use Rattle.std.proofs.Common.{◌≡◌, None, sym, ap, ◌∙◌}
+use Rattle.std.proofs.Common.{sym, ap, ◌∙◌}
 use Rattle.shelf.specs.Standing.{nth}
 use Rattle.files.specs.Fields.{number}
-use Rattle.files.specs.Lines.{line_in, read_by, said, left, past}
+use Rattle.files.specs.Lines.{line_in, read_by, left, past}
 use Rattle.files.proofs.Parting.{no_shares}
 use Rattle.files.proofs.bodies.new_order.Goals as goal
 

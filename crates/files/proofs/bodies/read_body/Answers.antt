@@ -1,4 +1,4 @@
-use Rattle.std.proofs.Common.{◌≡◌, Ok, sym, ap, ◌∙◌}
+use Rattle.std.proofs.Common.{Ok, sym, ap, ◌∙◌}
 use Rattle.files.specs.Lines.{line_in}
 use Rattle.files.proofs.Parting.{line_begun, no_line}
 use Rattle.files.proofs.bodies.read_body.Goals as goal

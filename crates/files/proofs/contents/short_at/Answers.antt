@@ -1,6 +1,5 @@
-use Rattle.std.proofs.Common.{◌≡◌, ◌+◌, ◌*◌, get_or, arith}
+use Rattle.std.proofs.Common.{◌+◌, arith}
 use Rattle.std.proofs.lemmas.List.{get_or_past}
-use Rattle.files.specs.Files.{short_at}
 use Rattle.files.proofs.contents.short_at.Goals as goal
 
 pub returns : goal.returns

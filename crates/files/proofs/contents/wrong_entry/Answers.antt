@@ -1,5 +1,5 @@
-use Rattle.std.proofs.Common.{◌≡◌, suc, ◌+◌, ◌-◌, ◌*◌, ◌≤◌, sym, ap, ◌∙◌, arith}
-use Rattle.files.specs.Files.{offset_of, length_of, wrong_entry}
+use Rattle.std.proofs.Common.{◌≡◌, suc, ◌+◌, ◌-◌, ◌*◌, sym, ap, ◌∙◌, arith}
+use Rattle.files.specs.Files.{wrong_entry}
 use Rattle.files.proofs.Entries.{entry_right, entry_wrong}
 use Rattle.files.proofs.contents.wrong_entry.Goals as goal
 

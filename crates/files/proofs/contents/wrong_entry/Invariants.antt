@@ -1,5 +1,5 @@
 use Rattle.std.proofs.Common.{◌≡◌, ◌+◌, ◌-◌, ◌*◌, ◌≤◌}
-use Rattle.files.specs.Files.{wrong_entry, count_of}
+use Rattle.files.specs.Files.{wrong_entry}
 use Rattle.files.proofs.contents.wrong_entry.Given as goal
 
 -- the entries that are left decide

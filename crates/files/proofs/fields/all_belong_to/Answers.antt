@@ -1,4 +1,4 @@
-use Rattle.std.proofs.Common.{◌≡◌, sym, ◌∙◌}
+use Rattle.std.proofs.Common.{sym, ◌∙◌}
 use Rattle.files.specs.Fields.{belongs}
 use Rattle.files.proofs.Scans.{every_more, every_all}
 use Rattle.files.proofs.fields.all_belong_to.Goals as goal

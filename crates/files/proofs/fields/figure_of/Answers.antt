@@ -1,7 +1,7 @@
-use Rattle.std.proofs.Common.{◌≡◌, ℕ, ◌<◌, ◌≤◌, true, false, cond, get_or, Some, None, sym, refl, ap, ◌∙◌, arith}
+use Rattle.std.proofs.Common.{◌≡◌, ◌≤◌, true, false, get_or, Some, sym, refl, ap, ◌∙◌, arith}
 use Rattle.std.proofs.lemmas.Bool.Decides.{nat_tests}
 use Rattle.files.specs.declared.types.Alphabet.TheVariants.{Digits}
-use Rattle.files.specs.Fields.{belongs, every, figure}
+use Rattle.files.specs.Fields.{belongs, every}
 use Rattle.files.proofs.Scans.{every_more, every_all, figure_more, figure_all, digit_more, digits_small}
 use Rattle.files.proofs.fields.figure_of.Goals as goal
 

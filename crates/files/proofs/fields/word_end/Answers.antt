@@ -1,6 +1,5 @@
-use Rattle.std.proofs.Common.{◌≡◌, suc, ◌+◌, true, false, cond, eqb, [], ◌∷◌, length, get_or, drop, sym, ap, ◌∙◌, arith}
+use Rattle.std.proofs.Common.{◌≡◌, true, false, eqb, length, get_or, ap, arith}
 use Rattle.std.proofs.lemmas.Bool.{eq-eqb, ne_eqb}
-use Rattle.files.specs.Fields.{word}
 use Rattle.files.proofs.Scans.{word_more, word_all}
 use Rattle.files.proofs.fields.word_end.Goals as goal
 

@@ -1,7 +1,6 @@
-use Rattle.std.proofs.Common.{◌≡◌, ℕ, ◌+◌, ◌*◌, List, ◌++◌, length, take, drop, Ok, Err, Result, sym, refl, ap, ◌∙◌, arith}
-use Rattle.files.specs.declared.types.PackError.{PackError}
+use Rattle.std.proofs.Common.{◌≡◌, ℕ, ◌+◌, ◌*◌, ◌++◌, length, take, drop, Ok, sym, refl, ap, ◌∙◌, arith}
 use Rattle.files.specs.Written.{short, contents, layout}
-use Rattle.files.specs.Packing.{lines_in, unparted, packed}
+use Rattle.files.specs.Packing.{lines_in, unparted}
 use Rattle.files.proofs.Packing.{length_layout, packed_large, packed_short, packed_fits, written_out}
 use Rattle.files.proofs.pack.pack.Goals as goal
 

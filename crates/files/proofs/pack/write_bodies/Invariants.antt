@@ -1,5 +1,5 @@
-use Rattle.std.proofs.Common.{◌≡◌, ◌+◌, ◌-◌, ◌≤◌, ◌++◌, length, take, drop}
-use Rattle.files.specs.Packing.{lines_in, unparted}
+use Rattle.std.proofs.Common.{◌≡◌, ◌+◌, ◌-◌, ◌++◌, length, take, drop}
+use Rattle.files.specs.Packing.{unparted}
 use Rattle.files.proofs.pack.write_bodies.Given as goal
 
 -- what is written, and the lines that are left, make the bodies

@@ -1,7 +1,7 @@
 use Rattle.std.proofs.Common.{◌≡◌, ◌+◌, ◌-◌, ◌*◌, ◌++◌, length, take, drop, sym, refl, ap, ◌∙◌, arith}
 use Rattle.files.specs.Written.{short, contents}
-use Rattle.files.specs.Packing.{lines_in, unparted}
-use Rattle.files.proofs.Packing.{line_length, lines_fewer, bytes_fewer, contents_fewer, no_contents, no_lines_length}
+use Rattle.files.specs.Packing.{lines_in}
+use Rattle.files.proofs.Packing.{lines_fewer, bytes_fewer, contents_fewer, no_contents, no_lines_length}
 use Rattle.files.proofs.Writes.{stands_more, stays_more, stands_all}
 use Rattle.files.proofs.pack.write_contents.Goals as goal
 

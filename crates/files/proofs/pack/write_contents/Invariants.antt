@@ -1,4 +1,4 @@
-use Rattle.std.proofs.Common.{◌≡◌, ◌+◌, ◌-◌, ◌*◌, ◌≤◌, ◌++◌, length, take, drop}
+use Rattle.std.proofs.Common.{◌≡◌, ◌+◌, ◌-◌, ◌*◌, ◌++◌, length, take, drop}
 use Rattle.files.specs.Written.{contents}
 use Rattle.files.specs.Packing.{lines_in, unparted}
 use Rattle.files.proofs.pack.write_contents.Given as goal

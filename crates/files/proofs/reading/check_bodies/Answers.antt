@@ -1,7 +1,4 @@
-use Rattle.std.proofs.Common.{◌≡◌, ◌+◌, ◌-◌, cond, length, Some, None, sym, refl, ap, ◌∙◌, arith}
-use Rattle.files.specs.declared.types.Fault.TheVariants.{Missing}
-use Rattle.files.specs.Fields.{Malformed, is_end}
-use Rattle.files.specs.Files.{offset_of}
+use Rattle.std.proofs.Common.{◌+◌, length, sym, refl, ap, ◌∙◌, arith}
 use Rattle.files.proofs.Words.{within_word}
 use Rattle.files.proofs.Entries.{past_wrong, past_right, past_last, stopped, passed}
 use Rattle.files.proofs.reading.check_bodies.Goals as goal

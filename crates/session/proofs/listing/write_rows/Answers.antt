@@ -1,4 +1,4 @@
-use Rattle.std.proofs.Common.{◌≡◌, length, take, refl, arith}
+use Rattle.std.proofs.Common.{◌≡◌, length, refl, arith}
 use Rattle.std.proofs.lemmas.List.{take_all}
 use Rattle.session.proofs.Writing.{wrote_none, rows_wrote}
 use Rattle.session.proofs.listing.write_rows.Goals as goal

@@ -1,7 +1,5 @@
-use Rattle.std.proofs.Common.{◌≡◌, sym, ap, ◌∙◌}
+use Rattle.std.proofs.Common.{◌∙◌}
 use Rattle.market.specs.declared.types.Side.TheVariants.{Buy, Sell}
-use Rattle.board.specs.Quotes.{best_in}
-use Rattle.board.specs.Plates.{plate_quotes}
 use Rattle.board.specs.PlatesLemmas.{row_best_is}
 use Rattle.board.proofs.plate.PlateBoard.best.Goals as goal
 

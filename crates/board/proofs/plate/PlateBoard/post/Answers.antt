@@ -1,7 +1,6 @@
-use Rattle.std.proofs.Common.{◌≡◌, ◌+◌, ◌-◌, sym, ap, ◌∙◌, arith}
+use Rattle.std.proofs.Common.{◌≡◌, ◌+◌, ◌-◌, sym, arith}
 use Rattle.std.proofs.lemmas.Bool.Decides.{nat_tests}
-use Rattle.board.specs.Quotes.{post_answer, posted, with_quote}
-use Rattle.board.specs.Plates.{plate_quotes}
+use Rattle.board.specs.Quotes.{post_answer, posted}
 use Rattle.board.proofs.Answers.{answered_ok}
 use Rattle.board.proofs.plate.PlateBoard.post.Goals as goal
 

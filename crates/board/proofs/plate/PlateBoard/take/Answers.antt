@@ -1,7 +1,6 @@
-use Rattle.std.proofs.Common.{◌≡◌, ◌+◌, ◌-◌, ◌<◌, true, sym, ap, ◌∙◌, arith}
+use Rattle.std.proofs.Common.{◌≡◌, ◌+◌, ◌-◌, ◌<◌, sym, ap, ◌∙◌, arith}
 use Rattle.std.proofs.lemmas.Bool.Decides.{nat_tests}
-use Rattle.board.specs.Quotes.{take_answer, lowered, with_quote, quote_ok}
-use Rattle.board.specs.Plates.{plate_quotes}
+use Rattle.board.specs.Quotes.{take_answer, lowered, quote_ok}
 use Rattle.board.proofs.Answers.{answered_ok}
 use Rattle.board.specs.PlatesLemmas.{plate_lawful}
 use Rattle.board.proofs.plate.PlateBoard.take.Goals as goal

@@ -1,4 +1,4 @@
-use Rattle.std.proofs.Common.{◌≡◌, [], length, Ok, sym, refl, ap, ◌∙◌}
+use Rattle.std.proofs.Common.{[], length, Ok, refl, ap, ◌∙◌}
 use native.Mathlib.Nat.{sub-zero}
 use Rattle.rules.specs.Calls.{outcome, accepted}
 use Rattle.book.specs.Held.{held}

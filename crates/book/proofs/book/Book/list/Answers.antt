@@ -1,11 +1,11 @@
-use Rattle.std.proofs.Common.{◌≡◌, ◌+◌, ◌≤◌, false, ltb, ◌++◌, map, length, take, None, sym, refl, ap, ◌∙◌, subst, arith}
+use Rattle.std.proofs.Common.{◌≡◌, ◌≤◌, false, ltb, ◌++◌, map, length, take, sym, refl, ap, ◌∙◌, subst, arith}
 use native.Mathlib.Nat.{sub-zero}
 use Rattle.std.specs.List.Sorted.{IsPermutation}
 use Rattle.std.proofs.lemmas.List.{length-take-le}
 use Rattle.std.proofs.lemmas.List.Sorted.{IsPermutation-refl}
 use Rattle.std.proofs.lemmas.Bool.Decides.{nat_tests}
-use Rattle.market.specs.declared.types.Side.TheVariants.{Buy, Sell}
-use Rattle.rules.specs.Calls.{standing_row, standing_rows, list_refusal}
+use Rattle.market.specs.declared.types.Side.TheVariants.{Sell}
+use Rattle.rules.specs.Calls.{standing_row, standing_rows}
 use Rattle.book.specs.Held.{held}
 use Rattle.shelf.proofs.Cells.{drop_later}
 use Rattle.book.proofs.book.Book.list.Goals as goal

@@ -1,4 +1,4 @@
-use Rattle.std.proofs.Common.{◌≡◌, max, take, sym, refl, ap, ◌∙◌, arith}
+use Rattle.std.proofs.Common.{max, take, refl, arith}
 use Rattle.market.specs.declared.types.Side.TheVariants.{Buy, Sell}
 use Rattle.book.specs.Held.{held}
 use Rattle.shelf.proofs.Cells.{drop_later}
