@@ -2,7 +2,7 @@
 use Rattle.std.specs.Prelude.{◌≡◌, ℕ, zero, suc, ◌<◌, ◌≤◌, true, false, not, ◌&&◌, List, [], ◌∷◌, length, Some, None, Option, ◌==◌, ◌≢◌, refl}
 use Rattle.std.proofs.Common.{sym, ap, ◌∙◌, subst, inl, inr, ⊎_elim, arith}
 use Rattle.std.proofs.Math.Path.{fun_ext}
-use Rattle.std.specs.List.{AllByRecursion as All, list_all, remove}
+use Rattle.std.specs.List.{AllByRecursion, list_all, remove}
 use Rattle.std.proofs.ByRecursion.{All-weaker}
 use Rattle.std.proofs.lemmas.Bool.{cases_eq, eq-eqb, ne_eqb, eqb-true, eqb-false, cond-true, cond-false, cond_both, and_parts, and_from, both_ways}
 use Rattle.std.proofs.lemmas.Bool.Decides.{nat_tests}
@@ -25,11 +25,11 @@ use Rattle.board.specs.Bests.{IsBest, best_none, best_some, best_one, not_self}
 
 -- what the test of a side says
 pub record Sound (s : Side) (xs : List Level) : Type 0 where
-  pub levels : All (λ x. level_ok x ≡ true) xs
+  pub levels : AllByRecursion (λ x. level_ok x ≡ true) xs
   pub sorted : Sorted (before s) xs
   pub distinct : Distinct (λ (x : Level). x.market) xs
 
-leads_says : (s : Side) (x : Level) (ys : List Level) → list_all (leads s x) ys ≡ true → All (λ y. before s x y ≡ true) ys × All (λ (y : Level). x.market ≢ y.market) ys
+leads_says : (s : Side) (x : Level) (ys : List Level) → list_all (leads s x) ys ≡ true → AllByRecursion (λ y. before s x y ≡ true) ys × AllByRecursion (λ (y : Level). x.market ≢ y.market) ys
 leads_says s x [] h = (tt, tt)
 leads_says s x (y ∷ ys) h =
     let p = and_parts (leads s x y) (list_all (leads s x) ys) h in
@@ -38,7 +38,7 @@ leads_says s x (y ∷ ys) h =
     let e = q.1 in
     ((q.0, i.0), ((λ d. absurd (grind (arith, nat_tests))), i.1))
 
-says_leads : (s : Side) (x : Level) (ys : List Level) → All (λ y. before s x y ≡ true) ys → All (λ (y : Level). x.market ≢ y.market) ys → list_all (leads s x) ys ≡ true
+says_leads : (s : Side) (x : Level) (ys : List Level) → AllByRecursion (λ y. before s x y ≡ true) ys → AllByRecursion (λ (y : Level). x.market ≢ y.market) ys → list_all (leads s x) ys ≡ true
 says_leads s x [] a d = refl
 says_leads s x (y ∷ ys) a d =
     and_from _ _ (and_from (before s x y) (not (x.market == y.market)) a.0 (ap not (ne_eqb _ _ d.0))) (says_leads s x ys a.1 d.1)
@@ -80,7 +80,7 @@ lost_without m [] n e = refl
 lost_without m (x ∷ xs) n e = let ih = lost_without m xs (suc n) in grind (arith, nat_tests)
 
 -- what all levels have, the quotation of each market has
-pub all_quoted : (P : Level → Type 0) (xs : List Level) (m : ℕ) (y : Quote) → All P xs → rail_quote xs m ≡ Some y → P (level_of m y)
+pub all_quoted : (P : Level → Type 0) (xs : List Level) (m : ℕ) (y : Quote) → AllByRecursion P xs → rail_quote xs m ≡ Some y → P (level_of m y)
 all_quoted P [] m y a e = let z : ◌≡◌ {A = ℕ} 0 1 = cc in absurd (omega arith)
 all_quoted P (x ∷ xs) m y a e =
     cond_both (of_market m x) (Some x.quote) (rail_quote xs m) (λ r. r ≡ Some y → P (level_of m y))
@@ -91,14 +91,14 @@ all_quoted P (x ∷ xs) m y a e =
     (λ _ h. all_quoted P xs m y a.1 h) e
 
 -- a market with no quotation has no level
-unquoted : (m : ℕ) (xs : List Level) → rail_quote xs m ≡ None → All (λ (y : Level). m ≢ y.market) xs
+unquoted : (m : ℕ) (xs : List Level) → rail_quote xs m ≡ None → AllByRecursion (λ (y : Level). m ≢ y.market) xs
 unquoted m [] e = tt
 unquoted m (x ∷ xs) e =
-    cond_both (of_market m x) (Some x.quote) (rail_quote xs m) (λ r. r ≡ None → All (λ (y : Level). m ≢ y.market) (x ∷ xs))
+    cond_both (of_market m x) (Some x.quote) (rail_quote xs m) (λ r. r ≡ None → AllByRecursion (λ (y : Level). m ≢ y.market) (x ∷ xs))
     (λ _ h. let z : ◌≡◌ {A = ℕ} 0 1 = cc in absurd (omega arith))
     (λ f h. ((λ i. eqb-false _ _ f (sym i)), unquoted m xs h)) e
 
-none_of_market : (m : ℕ) (xs : List Level) → All (λ (y : Level). m ≢ y.market) xs → rail_quote xs m ≡ None
+none_of_market : (m : ℕ) (xs : List Level) → AllByRecursion (λ (y : Level). m ≢ y.market) xs → rail_quote xs m ≡ None
 none_of_market m [] a = refl
 none_of_market m (x ∷ xs) a = cond-false (of_market m x) _ _ (ne_eqb _ _ (λ i. a.0 (sym i))) ∙ none_of_market m xs a.1
 
@@ -141,7 +141,7 @@ sound_put s m q xs hm hq e k =
     }
 
 -- levels of different markets 1 to n are n at most: without that of market n, they are of the markets below
-few : (n : ℕ) (xs : List Level) → All (λ (x : Level). (1 ≤ x.market) × (x.market ≤ n)) xs → Distinct (λ (x : Level). x.market) xs → length xs ≤ n
+few : (n : ℕ) (xs : List Level) → AllByRecursion (λ (x : Level). (1 ≤ x.market) × (x.market ≤ n)) xs → Distinct (λ (x : Level). x.market) xs → length xs ≤ n
 few zero [] a d = omega arith
 few zero (x ∷ xs) a d = let l = a.0.0 in let h = a.0.1 in absurd (omega arith)
 few (suc n) xs a d =
@@ -152,7 +152,7 @@ few (suc n) xs a d =
     let l = length_without (suc n) xs in
     omega arith
   where
-    lower : (ys : List Level) → All (λ (x : Level). (1 ≤ x.market) × (x.market ≤ suc n)) ys → All (λ (y : Level). suc n ≢ y.market) ys → All (λ (x : Level). (1 ≤ x.market) × (x.market ≤ n)) ys
+    lower : (ys : List Level) → AllByRecursion (λ (x : Level). (1 ≤ x.market) × (x.market ≤ suc n)) ys → AllByRecursion (λ (y : Level). suc n ≢ y.market) ys → AllByRecursion (λ (x : Level). (1 ≤ x.market) × (x.market ≤ n)) ys
     lower [] b u = tt
     lower (y ∷ ys) b u = let l = b.0.0 in let h = b.0.1 in let e = u.0 in ((l, omega arith), lower ys b.1 u.1)
 

@@ -1,6 +1,6 @@
 -- What reading a file has to do with writing one. Assumes nothing.
 use Rattle.std.proofs.Common.{◌≡◌, ℕ, zero, suc, ◌+◌, ◌*◌, ◌<◌, ◌≤◌, false, cond, ◌||◌, ltb, List, [], ◌∷◌, map, length, get_or, Some, None, Ok, Err, Option, Result, sym, refl, ap, ◌∙◌, subst, ⊎_elim, zero-add, arith, w8, Fits}
-use Rattle.std.specs.List.{AllByRecursion as All}
+use Rattle.std.specs.List.{AllByRecursion}
 use Rattle.std.proofs.lemmas.List.{length-map}
 use Rattle.std.proofs.ByRecursion.{All-from_get_or}
 use Rattle.std.proofs.lemmas.Bool.{cases_lt, cond-true, cond-false, lt-ltb, le-ltb}
@@ -24,25 +24,25 @@ abbrev Clean : List ℕ → Type 0
 Clean b = fault_of b ≡ None
 
 -- no body is refused exactly if none has a fault
-bodies_clean : (file : List ℕ) (k i : ℕ) → wrong_body file k i ≡ None → All Clean (bodies_from file k i)
+bodies_clean : (file : List ℕ) (k i : ℕ) → wrong_body file k i ≡ None → AllByRecursion Clean (bodies_from file k i)
 bodies_clean file zero i e = tt
 bodies_clean file (suc k) i e =
-    by_option (fault_of (body_in file i)) (λ o. ◌≡◌ {A = Option Refusal} (elim o [ None ↦ wrong_body file k (suc i) | Some m ↦ Some (Body i (offset_of file i + m.place)) ]) None → All Clean (bodies_from file (suc k) i))
+    by_option (fault_of (body_in file i)) (λ o. ◌≡◌ {A = Option Refusal} (elim o [ None ↦ wrong_body file k (suc i) | Some m ↦ Some (Body i (offset_of file i + m.place)) ]) None → AllByRecursion Clean (bodies_from file (suc k) i))
     (λ n h. (n, bodies_clean file k (suc i) h)) (λ m s h. absurd (let z : ◌≡◌ {A = ℕ} 0 1 = cc in omega arith)) e
 
-clean_bodies : (file : List ℕ) (k i : ℕ) → All Clean (bodies_from file k i) → wrong_body file k i ≡ None
+clean_bodies : (file : List ℕ) (k i : ℕ) → AllByRecursion Clean (bodies_from file k i) → wrong_body file k i ≡ None
 clean_bodies file zero i h = refl
 clean_bodies file (suc k) i h = ap (λ o. elim o [ None ↦ wrong_body file k (suc i) | Some m ↦ Some (Body i (offset_of file i + m.place)) ]) h.0 ∙ clean_bodies file k (suc i) h.1
 
 -- bodies without a fault are lines, written
-lines_of : (bs : List (List ℕ)) → All Clean bs → (lines : List Line) × All LawfulLine lines × (bs ≡ map body_bytes lines)
+lines_of : (bs : List (List ℕ)) → AllByRecursion Clean bs → (lines : List Line) × AllByRecursion LawfulLine lines × (bs ≡ map body_bytes lines)
 lines_of [] h = ([], tt, refl)
 lines_of (b ∷ bs) h =
     let l = body_lawful b h.0 in
     let r = lines_of bs h.1 in
     (l.0 ∷ r.0, (l.1, r.1), ap (λ x. x ∷ bs) l.2 ∙ ap (λ ys. body_bytes l.0 ∷ ys) r.2)
 
-written_clean : (lines : List Line) → All LawfulLine lines → All Clean (map body_bytes lines)
+written_clean : (lines : List Line) → AllByRecursion LawfulLine lines → AllByRecursion Clean (map body_bytes lines)
 written_clean [] h = tt
 written_clean (l ∷ ls) h = (body_clean l h.0, written_clean ls h.1)
 
@@ -83,7 +83,7 @@ only_written file n b e =
     (r.0, (r.1, omega (arith, k, s.1), omega (arith, ap length f, s.0)), k ∙ a.count, f)
 
 -- the bodies of a file, read
-lines_at : (file : List ℕ) (k j : ℕ) (lines : List Line) → All LawfulLine lines → bodies_from file k j ≡ map body_bytes lines → (i : ℕ) → i < k → read_line (body_in file (j + i)) ≡ nth i lines
+lines_at : (file : List ℕ) (k j : ℕ) (lines : List Line) → AllByRecursion LawfulLine lines → bodies_from file k j ≡ map body_bytes lines → (i : ℕ) → i < k → read_line (body_in file (j + i)) ≡ nth i lines
 lines_at file zero j lines h e i l = absurd (omega arith)
 lines_at file (suc k) j [] h e i l = absurd (let z : ◌≡◌ {A = ℕ} 0 1 = cc in omega arith)
 lines_at file (suc k) j (x ∷ xs) h e zero l =
@@ -110,13 +110,13 @@ written_accepted lines h =
     let c = d.count in
     let s : wrong_size f ≡ false = right_size (length f) (count_of f) h.2 (omega (arith, c, m, h.1)) (omega (arith, c, d.room)) in
     let e : wrong_entry f (count_of f) 0 (2 + 4 * count_of f) ≡ None = ap (λ k. wrong_entry f k 0 (2 + 4 * k)) c ∙ d.entries in
-    let w : wrong_body f (count_of f) 0 ≡ None = clean_bodies f (count_of f) 0 (subst (λ ys. All Clean ys) (sym (ap (λ k. bodies_from f k 0) c ∙ d.bodies)) (written_clean lines h.0)) in
+    let w : wrong_body f (count_of f) 0 ≡ None = clean_bodies f (count_of f) 0 (subst (λ ys. AllByRecursion Clean ys) (sym (ap (λ k. bodies_from f k 0) c ∙ d.bodies)) (written_clean lines h.0)) in
     ap (λ b. refused (count_of f) (cond b (Some FileSize) (elim (wrong_entry f (count_of f) 0 (2 + 4 * count_of f)) [ Some i ↦ Some (Contents i (2 + 4 * i)) | None ↦ wrong_body f (count_of f) 0 ]))) s
     ∙ ap (λ o. refused (count_of f) (elim o [ Some i ↦ Some (Contents i (2 + 4 * i)) | None ↦ wrong_body f (count_of f) 0 ])) e
     ∙ ap (refused (count_of f)) w
     ∙ ap (λ (k : ℕ). Ok k) (c ∙ m)
 
-pub written_lines : (lines : List Line) → All LawfulLine lines → (i : ℕ) → line_at (file_bytes lines) i ≡ nth i lines
+pub written_lines : (lines : List Line) → AllByRecursion LawfulLine lines → (i : ℕ) → line_at (file_bytes lines) i ≡ nth i lines
 written_lines lines h i =
     let bs = map body_bytes lines in
     let f = file_bytes lines in
@@ -159,7 +159,7 @@ line_written file i o v lines h e = v ∙ ap (λ f. line_at f i) e ∙ written_l
 
 -- Reading a file as a whole.
 
-lines_from_are : (file : List ℕ) (k j : ℕ) (lines : List Line) → All LawfulLine lines → bodies_from file k j ≡ map body_bytes lines → lines_from file k j ≡ lines
+lines_from_are : (file : List ℕ) (k j : ℕ) (lines : List Line) → AllByRecursion LawfulLine lines → bodies_from file k j ≡ map body_bytes lines → lines_from file k j ≡ lines
 lines_from_are file zero j [] h e = refl
 lines_from_are file zero j (x ∷ xs) h e = absurd (let z : ◌≡◌ {A = ℕ} 0 1 = cc in omega arith)
 lines_from_are file (suc k) j [] h e = absurd (let z : ◌≡◌ {A = ℕ} 0 1 = cc in omega arith)

@@ -1,6 +1,6 @@
 -- The words of a lawful line have no fault and say that line; and words without a fault are those of a lawful line. Assumes nothing.
 use Rattle.std.proofs.Common.{◌≡◌, ℕ, ◌+◌, ◌-◌, ◌<◌, Bool, true, false, cond, ◌&&◌, eqb, ltb, leb, List, [], ◌∷◌, length, Some, None, Ok, Err, decimal, Option, Result, sym, refl, ap, ◌∙◌, subst, arith, lit<}
-use Rattle.std.specs.List.{AllByRecursion as All}
+use Rattle.std.specs.List.{AllByRecursion}
 use Rattle.std.proofs.lemmas.Bool.{and_parts, ltb-true, cond-true}
 use Rattle.std.proofs.lemmas.Bool.Decides.{nat_tests}
 use Rattle.market.specs.declared.types.Side.{Side}
@@ -135,7 +135,7 @@ read_words_back (Post m s p n) h =
     ∙ and_then_some (said number 3 w) p _ (said_ok _ _ (number_decimal p h.1))
     ∙ and_then_some (said number 4 w) n _ (said_ok _ _ (number_decimal n h.2))
 
-ilo_unspaced : (k : Kind) → LawfulKind k → All Unspaced (ilo_words k)
+ilo_unspaced : (k : Kind) → LawfulKind k → AllByRecursion Unspaced (ilo_words k)
 ilo_unspaced Displayed h = tt
 ilo_unspaced Dark h = tt
 ilo_unspaced Olo h = tt

@@ -1,6 +1,6 @@
 -- Words that are parted by spaces read back as themselves, and a body is its words with spaces. Assumes nothing.
 use Rattle.std.proofs.Common.{◌≡◌, ℕ, cond, eqb, List, [], ◌∷◌, ◌++◌, sym, refl, ap, ◌∙◌}
-use Rattle.std.specs.List.{flat_map, AllByRecursion as All}
+use Rattle.std.specs.List.{flat_map, AllByRecursion}
 use Rattle.std.proofs.lemmas.Bool.{eqb-true, ne_eqb}
 use Rattle.std.proofs.lemmas.List.{append-nil}
 use Rattle.files.specs.Fields.{word, further, fields}
@@ -9,7 +9,7 @@ use Rattle.files.proofs.Words.{by_test}
 
 -- no byte of a word is a space
 abbrev pub Unspaced : List ℕ → Type 0
-Unspaced w = All (λ c. c ≡ 32 → ⊥) w
+Unspaced w = AllByRecursion (λ c. c ≡ 32 → ⊥) w
 
 pub spaced_fields : (xs : List ℕ) → spaced (fields xs) ≡ xs
 spaced_fields [] = refl
@@ -34,7 +34,7 @@ word_then (c ∷ cs) r u =
     let s = cs ++ 32 ∷ r in
     (ap (λ b. cond b [] (c ∷ word 32 s)) n ∙ ap (λ ys. c ∷ ys) ih.0, ap (λ b. cond b (word 32 s ∷ further 32 s) (further 32 s)) n ∙ ih.1)
 
-pub fields_spaced : (w : List ℕ) (ws : List (List ℕ)) → All Unspaced (w ∷ ws) → fields (spaced (w ∷ ws)) ≡ w ∷ ws
+pub fields_spaced : (w : List ℕ) (ws : List (List ℕ)) → AllByRecursion Unspaced (w ∷ ws) → fields (spaced (w ∷ ws)) ≡ w ∷ ws
 fields_spaced w [] u =
     let a = word_all w u.0 in
     ap fields (append-nil w) ∙ ap (λ v. v ∷ further 32 w) a.0 ∙ ap (λ vs. w ∷ vs) a.1

@@ -1,7 +1,7 @@
 -- How lines are written as the bytes of a session file, and what reading has to do with it.
 -- Rests on decimals as the library writes them, and on the reading of a file.
 use Rattle.std.specs.Prelude.{◌≡◌, ℕ, ◌+◌, ◌*◌, ◌/◌, ◌%◌, ◌<◌, ◌≤◌, true, List, [], ◌∷◌, ◌++◌, map, length, Ok, Err, codes, decimal, Result, ◌≢◌}
-use Rattle.std.specs.List.{flat_map, AllByRecursion as All}
+use Rattle.std.specs.List.{flat_map, AllByRecursion}
 use Rattle.market.specs.declared.types.Refusal.{Refusal}
 use Rattle.market.specs.declared.types.Side.{Side}
 use Rattle.market.specs.declared.types.Side.TheVariants.{Buy, Sell}
@@ -90,10 +90,10 @@ LawfulLine (Post market side price shares) = Small market × Small price × Smal
 
 -- the lines fit into one file
 abbrev pub Fitting : List Line → Type 0
-Fitting lines = All LawfulLine lines × (length lines ≤ 512) × (length (file_bytes lines) ≤ 65535)
+Fitting lines = AllByRecursion LawfulLine lines × (length lines ≤ 512) × (length (file_bytes lines) ≤ 65535)
 
 abbrev pub Bytes : List ℕ → Type 0
-Bytes file = All (λ b. b < 256) file
+Bytes file = AllByRecursion (λ b. b < 256) file
 
 -- every list of lines that fits, written out, is accepted, and reads back as itself
 abbrev pub ReadsBack : Type 0

@@ -1,7 +1,7 @@
 -- A cancel takes one order off and a cut may move it; a post sets one quotation: what each keeps, and what the account has then.
 -- Rests on the lemmas on markets and on lists by tag.
 use Rattle.std.proofs.Common.{◌≡◌, ℕ, ◌-◌, ◌<◌, true, false, cond, eqb, List, Some, None, Option, sym, refl, ap, ◌∙◌, subst, inl, inr, arith}
-use Rattle.std.specs.List.{remove, AllByRecursion as All}
+use Rattle.std.specs.List.{remove, AllByRecursion}
 use Rattle.std.proofs.lemmas.Bool.Decides.{nat_tests}
 use Rattle.std.proofs.lemmas.Bool.{cases_Bool, cases_eq, cond-true, cond-false, eq-eqb, ne_eqb}
 use Rattle.market.specs.declared.types.Side.{Side}
@@ -71,7 +71,7 @@ module _ (ranking : Ranking) (law : Ranks ranking) (s : Side) (n : ℕ) (os : Li
   found_removed k = found_edited arrival_of os p o None w.distinct e (λ y g. absurd (none_some y g)) k
 
   -- no other order of the side has its arrival
-  alone : All (λ x. o.arrival ≡ x.arrival → ⊥) (remove os p)
+  alone : AllByRecursion (λ x. o.arrival ≡ x.arrival → ⊥) (remove os p)
   alone = none_tagged arrival_of o.arrival (remove os p) (found_removed o.arrival ∙ cond-true _ _ _ (eq-eqb o.arrival o.arrival refl))
 
   module _ (c : ℕ) (stays : leaves c o ≡ false) where

@@ -1,7 +1,7 @@
 -- Where an account agrees with what stands, the test of who may trade says what the five conditions of the judge say.
 -- Rests on the lemmas on quotations and on lists by tag.
 use Rattle.std.proofs.Common.{◌≡◌, ℕ, ◌<◌, ◌≤◌, Bool, true, false, cond, not, ◌&&◌, ◌||◌, eqb, List, length, Some, None, Decides, Option, sym, refl, ap, ◌∙◌, subst, arith}
-use Rattle.std.specs.List.{AllByRecursion as All}
+use Rattle.std.specs.List.{AllByRecursion}
 use Rattle.std.proofs.lemmas.Bool.Decides.{nat_tests, Decides-and, Decides-like}
 use Rattle.std.proofs.ByRecursion.{Decides-by_and, All-weaker}
 use Rattle.std.proofs.lemmas.Bool.{and_parts, and_from, leb-true, le-leb, true≢false, false≢true}
@@ -35,7 +35,7 @@ pub record OrderKept (s : Side) (n : ℕ) (o : Order) : Type 0 where
 pub record SideKept (ranking : Ranking) (s : Side) (n : ℕ) (os : List Order) : Type 0 where
   pub sorted : Sorted (before ranking s) os
   pub distinct : Distinct arrival_of os
-  pub each : All (OrderKept s n) os
+  pub each : AllByRecursion (OrderKept s n) os
   pub room : length os ≤ 128
 
 -- no arrival is found in both
@@ -96,7 +96,7 @@ module _ (ranking : Ranking) (n : ℕ) (s : Stand) (a : Account) (ok : Sound ran
   own_at_rest k o e = ap (λ r. or_else r (found arrival_of k s.opp)) e
 
   -- what holds of all on either side, holds of what is at rest
-  either : (P : Order → Type 0) → All P s.own → All P s.opp → (k : ℕ) (d : Order) → at_rest k ≡ Some d → P d
+  either : (P : Order → Type 0) → AllByRecursion P s.own → AllByRecursion P s.opp → (k : ℕ) (d : Order) → at_rest k ≡ Some d → P d
   either P p q k d e =
       by_option (found arrival_of k s.own) (λ r. found arrival_of k s.own ≡ r → or_else r (found arrival_of k s.opp) ≡ Some d → P d)
       (λ _ _ h. all_found P arrival_of k s.opp d q h) (λ x _ g h. all_found P arrival_of k s.own d p (g ∙ h)) refl e
@@ -105,7 +105,7 @@ module _ (ranking : Ranking) (n : ℕ) (s : Stand) (a : Account) (ok : Sound ran
   pub older : (k : ℕ) (d : Order) → at_rest k ≡ Some d → s.incoming.arrival ≡ d.arrival → ⊥
   older k d e h =
       let l = ok.newer in
-      let numbered : (t : Side) (os : List Order) → All (OrderKept t n) os → All (λ o. o.arrival ≤ n) os = λ t os. All-weaker (OrderKept t n) (λ o. o.arrival ≤ n) (λ o w. w.numbered) os in
+      let numbered : (t : Side) (os : List Order) → AllByRecursion (OrderKept t n) os → AllByRecursion (λ o. o.arrival ≤ n) os = λ t os. All-weaker (OrderKept t n) (λ o. o.arrival ≤ n) (λ o w. w.numbered) os in
       let m : d.arrival ≤ n = either (λ o. o.arrival ≤ n) (numbered s.incoming.side s.own ok.own.each) (numbered (opposite s.incoming.side) s.opp ok.opp.each) k d e in
       omega arith
 
@@ -137,7 +137,7 @@ module _ (ranking : Ranking) (n : ℕ) (s : Stand) (a : Account) (ok : Sound ran
   abbrev Worse : ℕ → Order → Type 0
   Worse p o = displayed o.kind ≡ true → Better o.side p o.price
 
-  decides_all_worse : (p : ℕ) (os : List Order) → Decides (all_worse p os) (All (Worse p) os)
+  decides_all_worse : (p : ℕ) (os : List Order) → Decides (all_worse p os) (AllByRecursion (Worse p) os)
   decides_all_worse p os = Decides-by_and (worse_than p) (Worse p) (all_worse p) (λ o. decides_if (displayed o.kind) _ (decides_better o.side p o.price)) refl (λ _ _. refl) os
 
   decides_displayed_worse : (p : ℕ) → Decides (all_worse p s.opp && all_worse p s.own) (DisplayedWorse a s.incoming p)

@@ -1,6 +1,6 @@
 -- Sums over the numbers 1 to n, and when such a sum is one over a list. Assumes nothing.
 use Rattle.std.proofs.Common.{◌≡◌, ℕ, zero, suc, ◌+◌, ◌<◌, ◌≤◌, List, [], ◌∷◌, Some, None, Option, sym, refl, ap, ◌∙◌, ap₂, inl, inr, arith}
-use Rattle.std.specs.List.{AllByRecursion as All}
+use Rattle.std.specs.List.{AllByRecursion}
 use Rattle.std.proofs.lemmas.Bool.{cases_eq, cond-true, cond-false, eq-eqb, ne_eqb}
 use Rattle.shelf.specs.Order.{Distinct}
 use Rattle.law.specs.Judge.{Sum, count_upto}
@@ -52,7 +52,7 @@ sum_is F g h zero = refl
 sum_is F g h (suc n) = (g (suc n), count_upto g n, h (suc n), sum_is F g h n, refl)
 
 -- a sum over tags is the sum over the list; `refl` and `λ _ _. refl` show that total is that sum
-pub count_found : {X : Type 0} (tag : X → ℕ) (figure : Option X → ℕ) (total : List X → ℕ) → figure None ≡ 0 → total [] ≡ 0 → ((x : X) (xs : List X) → total (x ∷ xs) ≡ figure (Some x) + total xs) → (n : ℕ) (xs : List X) → Distinct tag xs → All (λ x. (1 ≤ tag x) × (tag x ≤ n)) xs → count_upto (λ k. figure (found tag k xs)) n ≡ total xs
+pub count_found : {X : Type 0} (tag : X → ℕ) (figure : Option X → ℕ) (total : List X → ℕ) → figure None ≡ 0 → total [] ≡ 0 → ((x : X) (xs : List X) → total (x ∷ xs) ≡ figure (Some x) + total xs) → (n : ℕ) (xs : List X) → Distinct tag xs → AllByRecursion (λ x. (1 ≤ tag x) × (tag x ≤ n)) xs → count_upto (λ k. figure (found tag k xs)) n ≡ total xs
 count_found tag figure total z none more n [] d a = count_none (λ k. figure None) n (λ _. z) ∙ sym none
 count_found tag figure total z none more n (x ∷ xs) d a =
     let rest = count_found tag figure total z none more n xs d.1 a.1 in

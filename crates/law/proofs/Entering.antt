@@ -1,7 +1,7 @@
 -- An entry that is accepted: its answer and rows pass the judge, and the market after it is kept and matched.
 -- Rests on the lemmas on sweeps, volumes and markets.
 use Rattle.std.proofs.Common.{◌≡◌, ℕ, suc, ◌+◌, ◌-◌, ◌<◌, ◌≤◌, true, false, cond, not, ◌&&◌, eqb, leb, List, [], ◌∷◌, length, Some, None, sym, refl, ap, ◌∙◌, subst, ap₂, inl, inr, arith}
-use Rattle.std.specs.List.{AllByRecursion as All}
+use Rattle.std.specs.List.{AllByRecursion}
 use Rattle.std.proofs.lemmas.Bool.Decides.{nat_tests}
 use Rattle.std.proofs.lemmas.Bool.{cases_Bool, cases_eq, cond_both, cond-true, cond-false, eq-eqb, ne_eqb, eqb-true, leb-true, leb-false}
 use Rattle.std.proofs.ByRecursion.{All-weaker}
@@ -122,13 +122,13 @@ module _ (ranking : Ranking) (law : Ranks ranking) (m : Market) (a : Account) (k
       }
 
   -- The residue put on its side.
-  new_among : (s : Side) (os : List Order) → All (OrderKept s m.arrivals) os → All (λ o. left.arrival ≡ o.arrival → ⊥) os
+  new_among : (s : Side) (os : List Order) → AllByRecursion (OrderKept s m.arrivals) os → AllByRecursion (λ o. left.arrival ≡ o.arrival → ⊥) os
   new_among s os w = let n = off.sound.newer in All-weaker (OrderKept s m.arrivals) (λ o. left.arrival ≡ o.arrival → ⊥) (λ o u e. let v = u.numbered in omega arith) os w
 
-  new_own : All (λ o. left.arrival ≡ o.arrival → ⊥) end.own
+  new_own : AllByRecursion (λ o. left.arrival ≡ o.arrival → ⊥) end.own
   new_own = new_among left.side end.own off.sound.own.each
 
-  new_opp : All (λ o. left.arrival ≡ o.arrival → ⊥) end.opp
+  new_opp : AllByRecursion (λ o. left.arrival ≡ o.arrival → ⊥) end.opp
   new_opp = new_among (opposite left.side) end.opp off.sound.opp.each
 
   abbrev own_then : List Order

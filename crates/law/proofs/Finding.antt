@@ -1,7 +1,7 @@
 -- Lists whose things have tags: what a search finds, and what putting in, taking out and exchanging leave to be found.
 -- Assumes nothing; nothing here knows of orders.
 use Rattle.std.proofs.Common.{◌≡◌, ℕ, zero, suc, ◌+◌, ◌≤◌, Bool, true, false, cond, eqb, List, [], ◌∷◌, length, set, Some, None, Option, sym, refl, ap, ◌∙◌, subst, inl, inr, arith}
-use Rattle.std.specs.List.{AllByRecursion as All, remove}
+use Rattle.std.specs.List.{AllByRecursion, remove}
 use Rattle.std.proofs.lemmas.Bool.Decides.{nat_tests}
 use Rattle.std.proofs.lemmas.Bool.{cases_Bool, cond_both, both_ways, eq-eqb, ne_eqb, cond-true, cond-false}
 use Rattle.std.proofs.ByRecursion.{All-weaker}
@@ -17,7 +17,7 @@ module _ {X : Type 0} where
   first_passes p [] n c e = grind (arith, nat_tests)
   first_passes p (x ∷ xs) n c e = let ih = first_passes p xs (suc n) c in grind (arith, nat_tests)
 
-  pub first_none : (p : X → Bool) (xs : List X) (n : ℕ) → first p xs n ≡ None → All (λ x. p x ≡ false) xs
+  pub first_none : (p : X → Bool) (xs : List X) (n : ℕ) → first p xs n ≡ None → AllByRecursion (λ x. p x ≡ false) xs
   first_none p [] n e = tt
   first_none p (x ∷ xs) n e = let ih = first_none p xs (suc n) in grind (arith, nat_tests)
 
@@ -29,11 +29,11 @@ module _ {X : Type 0} where
       (λ _ h. let (j, w) = first_nth p xs (suc n) c h in let k = w.0 in (suc j, (omega arith, w.1))) e
 
   -- in a sorted list nothing that passes stands before the first
-  pub first_least : {tag : X → ℕ} (lt : X → X → Bool) → Total tag lt → (p : X → Bool) (xs : List X) (n : ℕ) (c : Placed X) → Sorted lt xs → first p xs n ≡ Some c → All (λ x. p x ≡ true → lt x c.item ≡ false) xs
+  pub first_least : {tag : X → ℕ} (lt : X → X → Bool) → Total tag lt → (p : X → Bool) (xs : List X) (n : ℕ) (c : Placed X) → Sorted lt xs → first p xs n ≡ Some c → AllByRecursion (λ x. p x ≡ true → lt x c.item ≡ false) xs
   first_least lt t p [] n c a e = tt
   first_least lt t p (x ∷ xs) n c a e =
-      cond_both (p x) (Some (record { place = n; item = x })) (first p xs (suc n)) (λ r. r ≡ Some c → All (λ z. p z ≡ true → lt z c.item ≡ false) (x ∷ xs))
-      (λ _ h. subst (λ (d : Placed X). All (λ z. p z ≡ true → lt z d.item ≡ false) (x ∷ xs)) (some_is _ c h)
+      cond_both (p x) (Some (record { place = n; item = x })) (first p xs (suc n)) (λ r. r ≡ Some c → AllByRecursion (λ z. p z ≡ true → lt z c.item ≡ false) (x ∷ xs))
+      (λ _ h. subst (λ (d : Placed X). AllByRecursion (λ z. p z ≡ true → lt z d.item ≡ false) (x ∷ xs)) (some_is _ c h)
       ((λ _. t.never x), All-weaker (λ z. lt x z ≡ true) (λ z. p z ≡ true → lt z x ≡ false) (λ z k _. behind z k) xs a.0))
       (λ f h. ((λ w. absurd (both_ways (p x) f w)), first_least lt t p xs (suc n) c a.1 h)) e
     where
@@ -57,21 +57,21 @@ module _ {X : Type 0} where
   found_tag tag n [] x e = grind (arith, nat_tests)
   found_tag tag n (y ∷ xs) x e = let ih = found_tag tag n xs x in grind (arith, nat_tests)
 
-  pub all_found : (P : X → Type 0) (tag : X → ℕ) (n : ℕ) (xs : List X) (x : X) → All P xs → found tag n xs ≡ Some x → P x
+  pub all_found : (P : X → Type 0) (tag : X → ℕ) (n : ℕ) (xs : List X) (x : X) → AllByRecursion P xs → found tag n xs ≡ Some x → P x
   all_found P tag n [] x a e = absurd (none_some x e)
   all_found P tag n (y ∷ xs) x a e = let ih = all_found P tag n xs x a.1 in grind (arith, nat_tests)
 
-  pub all_nth : (P : X → Type 0) (xs : List X) (j : ℕ) (x : X) → All P xs → nth j xs ≡ Some x → P x
+  pub all_nth : (P : X → Type 0) (xs : List X) (j : ℕ) (x : X) → AllByRecursion P xs → nth j xs ≡ Some x → P x
   all_nth P [] j x a e = absurd (none_some x e)
   all_nth P (y ∷ xs) zero x a e = subst P (some_is y x e) a.0
   all_nth P (y ∷ xs) (suc j) x a e = all_nth P xs j x a.1 e
 
   -- what no tag equals is not found, and the other way round
-  pub absent : (tag : X → ℕ) (n : ℕ) (xs : List X) → All (λ y. n ≡ tag y → ⊥) xs → found tag n xs ≡ None
+  pub absent : (tag : X → ℕ) (n : ℕ) (xs : List X) → AllByRecursion (λ y. n ≡ tag y → ⊥) xs → found tag n xs ≡ None
   absent tag n [] a = refl
   absent tag n (x ∷ xs) a = let ih = absent tag n xs a.1 in let d = a.0 in grind (arith, nat_tests)
 
-  pub none_tagged : (tag : X → ℕ) (n : ℕ) (xs : List X) → found tag n xs ≡ None → All (λ y. n ≡ tag y → ⊥) xs
+  pub none_tagged : (tag : X → ℕ) (n : ℕ) (xs : List X) → found tag n xs ≡ None → AllByRecursion (λ y. n ≡ tag y → ⊥) xs
   none_tagged tag n [] e = tt
   none_tagged tag n (x ∷ xs) e = let ih = none_tagged tag n xs in grind (arith, nat_tests)
 
@@ -85,7 +85,7 @@ module _ {X : Type 0} where
       grind (arith, nat_tests)
 
   -- to hold of all is to hold of each that is found under its tag
-  pub all_from_found : (P : X → Type 0) (tag : X → ℕ) (xs : List X) → Distinct tag xs → ((x : X) → found tag (tag x) xs ≡ Some x → P x) → All P xs
+  pub all_from_found : (P : X → Type 0) (tag : X → ℕ) (xs : List X) → Distinct tag xs → ((x : X) → found tag (tag x) xs ≡ Some x → P x) → AllByRecursion P xs
   all_from_found P tag [] d k = tt
   all_from_found P tag (x ∷ xs) d k = (
     k x (cond-true _ _ _ (eq-eqb (tag x) (tag x) refl)),
@@ -110,7 +110,7 @@ module _ {X : Type 0} where
       let other = all_nth (λ y. tag z ≡ tag y → ⊥) xs j x d.0 e in
       grind (arith, nat_tests)
 
-  pub all_edited : (P : X → Type 0) (xs : List X) (j : ℕ) (r : Option X) → ((y : X) → r ≡ Some y → P y) → All P xs → All P (edited xs j r)
+  pub all_edited : (P : X → Type 0) (xs : List X) (j : ℕ) (r : Option X) → ((y : X) → r ≡ Some y → P y) → AllByRecursion P xs → AllByRecursion P (edited xs j r)
   all_edited P xs j None k a = all_removed P xs j a
   all_edited P [] j (Some y) k a = tt
   all_edited P (x ∷ xs) zero (Some y) k a = (k y refl, a.1)
@@ -137,11 +137,11 @@ module _ {X : Type 0} where
   length_edited (z ∷ xs) (suc j) x (Some y) e = let h = length_edited xs j x (Some y) e in omega arith
 
   -- One thing put in.
-  pub found_put_in : (tag : X → ℕ) (lt : X → X → Bool) (x : X) (n : ℕ) (ys : List X) → All (λ y. tag x ≡ tag y → ⊥) ys → found tag n (put_in lt x ys) ≡ cond (eqb (tag x) n) (Some x) (found tag n ys)
+  pub found_put_in : (tag : X → ℕ) (lt : X → X → Bool) (x : X) (n : ℕ) (ys : List X) → AllByRecursion (λ y. tag x ≡ tag y → ⊥) ys → found tag n (put_in lt x ys) ≡ cond (eqb (tag x) n) (Some x) (found tag n ys)
   found_put_in tag lt x n [] ne = refl
   found_put_in tag lt x n (y ∷ ys) ne = let ih = found_put_in tag lt x n ys ne.1 in let d = ne.0 in grind (arith, nat_tests, cases_Bool (lt x y))
 
-  pub put_in_distinct : (tag : X → ℕ) (lt : X → X → Bool) (x : X) (ys : List X) → All (λ y. tag x ≡ tag y → ⊥) ys → Distinct tag ys → Distinct tag (put_in lt x ys)
+  pub put_in_distinct : (tag : X → ℕ) (lt : X → X → Bool) (x : X) (ys : List X) → AllByRecursion (λ y. tag x ≡ tag y → ⊥) ys → Distinct tag ys → Distinct tag (put_in lt x ys)
   put_in_distinct tag lt x [] ne a = (tt, tt)
   put_in_distinct tag lt x (y ∷ ys) ne a =
       cond_both (lt x y) (x ∷ y ∷ ys) (y ∷ put_in lt x ys) (Distinct tag) (λ _. (ne, a))

@@ -1,7 +1,7 @@
 -- The identifier is lit exactly while a Program order has a remainder above 0.
 -- Rests on the lemmas on markets.
 use Rattle.std.proofs.Common.{◌≡◌, Bool, true, false, ◌||◌, List, [], ◌∷◌, Some, sym, refl, ap, ◌∙◌, inl, inr}
-use Rattle.std.specs.List.{AllByRecursion as All}
+use Rattle.std.specs.List.{AllByRecursion}
 use Rattle.std.proofs.lemmas.Bool.{cond-true, cond-false, eq-eqb, ne_eqb, or_parts, or_cases, both_ways, false≢true}
 use Rattle.market.specs.declared.types.Side.{Side}
 use Rattle.market.specs.declared.types.Side.TheVariants.{Buy, Sell}
@@ -31,7 +31,7 @@ some_program (o ∷ os) d e =
     let (x, w) = some_program os d.1 h in
     (x, (cond-false _ _ _ (ne_eqb o.arrival x.arrival (all_found (λ z. o.arrival ≡ z.arrival → ⊥) arrival_of x.arrival os x d.0 w.0)) ∙ w.0, w.1))) refl e
 
-no_program : (os : List Order) → any_program os ≡ false → All (λ o. is_program o ≡ false) os
+no_program : (os : List Order) → any_program os ≡ false → AllByRecursion (λ o. is_program o ≡ false) os
 no_program [] e = tt
 no_program (o ∷ os) e = let k = or_parts _ _ e in (k.0, no_program os k.1)
 

@@ -1,7 +1,7 @@
 -- What a market keeps between calls, when an account is of it, and what follows for the order that comes in next.
 -- Rests on the lemmas on conditions, lists by tag and sums over numbers.
 use Rattle.std.proofs.Common.{◌≡◌, ℕ, ◌+◌, ◌<◌, ◌≤◌, false, cond, ◌&&◌, eqb, ltb, List, length, Some, None, Option, sym, refl, ap, ◌∙◌, subst, arith}
-use Rattle.std.specs.List.{AllByRecursion as All}
+use Rattle.std.specs.List.{AllByRecursion}
 use Rattle.std.proofs.lemmas.Bool.Decides.{nat_tests}
 use Rattle.std.proofs.lemmas.Bool.{cond-true, cond-false, eq-eqb, ne_eqb, eqb-true}
 use Rattle.std.proofs.ByRecursion.{All-weaker}
@@ -94,7 +94,7 @@ with_side_made Buy os m = refl
 with_side_made Sell os m = refl
 
 -- A side with one order more, and the same side after later entries.
-pub side_put : (ranking : Ranking) → Ranks ranking → (s : Side) (n : ℕ) (o : Order) (os : List Order) → SideKept ranking s n os → OrderKept s n o → All (λ x. o.arrival ≡ x.arrival → ⊥) os → length os < 128 → SideKept ranking s n (put_in (before ranking s) o os)
+pub side_put : (ranking : Ranking) → Ranks ranking → (s : Side) (n : ℕ) (o : Order) (os : List Order) → SideKept ranking s n os → OrderKept s n o → AllByRecursion (λ x. o.arrival ≡ x.arrival → ⊥) os → length os < 128 → SideKept ranking s n (put_in (before ranking s) o os)
 side_put ranking law s n o os w k new room = record {
   sorted = put_sorted arrival_of (before ranking s) (λ x. x) (orders_total ranking law s) o os new w.sorted;
   distinct = put_in_distinct arrival_of (before ranking s) o os new w.distinct;

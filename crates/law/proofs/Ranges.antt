@@ -1,7 +1,7 @@
 -- Whatever passes the judge has its figures in their ranges, and so has every tape.
 -- Rests on the law of the tape.
 use Rattle.std.proofs.Common.{◌≡◌, ℕ, suc, ◌<◌, ◌≤◌, true, eqb, List, [], ◌∷◌, Some, None, Ok, Err, Option, Result, sym, refl, ap, subst, inl, inr, arith}
-use Rattle.std.specs.List.{AllByRecursion as All}
+use Rattle.std.specs.List.{AllByRecursion}
 use Rattle.std.proofs.lemmas.Bool.Decides.{nat_tests, not_from_Decides}
 use Rattle.std.proofs.lemmas.Bool.{cases_Bool, cases_lt, cond_both}
 use Rattle.market.specs.declared.types.Refusal.{Refusal}
@@ -112,20 +112,20 @@ module _ (a : Account) (r : Ranged a) where
       grind (arith, nat_tests)
 
 module _ (ranking : Ranking) where
-  sweep_ranged : (arrival : ℕ) (rows : List Row) (a : Account) → Ranged a → FairSweep ranking arrival a rows → All RangedRow rows
+  sweep_ranged : (arrival : ℕ) (rows : List Row) (a : Account) → Ranged a → FairSweep ranking arrival a rows → AllByRecursion RangedRow rows
   sweep_ranged arrival [] a r f = tt
   sweep_ranged arrival (x ∷ rows) a r f = (fair_row_ranged a r ranking arrival x f.0, sweep_ranged arrival rows (reckon_row x a) (row_ranged x a r) f.1)
 
   -- What a call answers, its rows and the account after it.
   module _ (a : Account) (r : Ranged a) where
     abbrev CallRanged : Call → Result Accepted Refusal → List Row → Type 0
-    CallRanged c x rows = RangedAnswer x × All RangedRow rows × Ranged (reckon_answer c x rows a)
+    CallRanged c x rows = RangedAnswer x × AllByRecursion RangedRow rows × Ranged (reckon_answer c x rows a)
 
-    entered_ranged : (i : Order) (w : Accepted) (rows : List Row) → Ranged (added i a) → FairEntry ranking a i w rows → (w.«open» ≤ 1000000) × (w.cancelled ≤ 1000000) × All RangedRow rows
+    entered_ranged : (i : Order) (w : Accepted) (rows : List Row) → Ranged (added i a) → FairEntry ranking a i w rows → (w.«open» ≤ 1000000) × (w.cancelled ≤ 1000000) × AllByRecursion RangedRow rows
     entered_ranged i w rows new f =
         let (v, m) = f.measured in
-        let each : All RangedRow rows = elim (cases_lt v (mtv_of i.kind)) [
-          | inl l ↦ subst (All RangedRow) (sym (m.below l)) tt
+        let each : AllByRecursion RangedRow rows = elim (cases_lt v (mtv_of i.kind)) [
+          | inl l ↦ subst (AllByRecursion RangedRow) (sym (m.below l)) tt
           | inr l ↦ sweep_ranged i.arrival rows (added i a) new (m.reached l)
         ] in
         let left = remainder_ranged (reckon_rows rows (added i a)) (rows_ranged rows (added i a) new) i.arrival in
@@ -140,7 +140,7 @@ module _ (ranking : Ranking) where
     ]
 
     answer_ranged : (c : Call) (room : ℕ) (x : Result Accepted Refusal) (rows : List Row) → FirstCase (Cases a c room) (refusal_of x) → FairAnswer ranking a c x rows → CallRanged c x rows
-    answer_ranged c room (Err e) rows g f = (tt, subst (All RangedRow) (sym f) tt, r)
+    answer_ranged c room (Err e) rows g f = (tt, subst (AllByRecursion RangedRow) (sym f) tt, r)
     answer_ranged (call.Enter side price kind shares) room (Ok w) rows g f =
         let i : Order = new_order (suc a.accepted) side price kind shares in
         let new : Ranged (added i a) = added_ranged a r i refl (grind (arith, nat_tests)) (grind (arith, nat_tests)) (grind (arith, nat_tests)) in
@@ -153,23 +153,23 @@ module _ (ranking : Ranking) where
         let v = cut_ranged arrival n w o u in
         let number = f.0 in
         let m = resting_ranged a r arrival (λ z. grind (arith, nat_tests)) in
-        ((omega arith, v.0, v.1), subst (All RangedRow) (sym f.2) tt, change_ranged a r arrival (cut_by n w.cancelled) (λ o. (refl, omega arith)))
+        ((omega arith, v.0, v.1), subst (AllByRecursion RangedRow) (sym f.2) tt, change_ranged a r arrival (cut_by n w.cancelled) (λ o. (refl, omega arith)))
     answer_ranged (call.Cancel arrival) room (Ok w) rows g f =
         let number = f.0 in
         let none_open = f.3 in
         let off = f.4 in
         let l = remainder_ranged a r arrival in
         let m = resting_ranged a r arrival (λ z. grind (arith, nat_tests)) in
-        (grind (arith, nat_tests), subst (All RangedRow) (sym f.2) tt, change_ranged a r arrival (less w.cancelled) (less_lowers w.cancelled))
+        (grind (arith, nat_tests), subst (AllByRecursion RangedRow) (sym f.2) tt, change_ranged a r arrival (less w.cancelled) (less_lowers w.cancelled))
     answer_ranged (call.Post market side price shares) room (Ok w) rows g f =
         let number = f.0 in
         let none_open = f.3 in
         let off = f.4 in
         let fits = cond_both (eqb shares 0) None (Some (record { price = price; shares = shares })) (λ q. quote_ok q ≡ true) (λ _. refl) (λ t. grind (arith, nat_tests)) in
         let lawful = with_quote_lawful a.quotes r.quotes side market (posted price shares) (grind (arith, nat_tests)) fits in
-        (grind (arith, nat_tests), subst (All RangedRow) (sym f.2) tt, record { known = r.known; accepted = r.accepted; quotes = lawful })
+        (grind (arith, nat_tests), subst (AllByRecursion RangedRow) (sym f.2) tt, record { known = r.known; accepted = r.accepted; quotes = lawful })
 
-  tape_passed : (es : List Entry) (a : Account) → Ranged a → FairTape ranking a es → All RangedEntry es
+  tape_passed : (es : List Entry) (a : Account) → Ranged a → FairTape ranking a es → AllByRecursion RangedEntry es
   tape_passed [] a r f = tt
   tape_passed (e ∷ es) a r f =
       let v = answer_ranged a r e.call e.room e.answer e.rows f.0.refusal f.0.answer in

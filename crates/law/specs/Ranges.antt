@@ -1,7 +1,7 @@
 -- The ranges of the figures of a tape: arrivals, prices and shares up to 1,000,000, and markets up to 16.
 -- Rests on the tape of the calls on a fresh book.
 use Rattle.std.specs.Prelude.{ℕ, ◌≤◌, List, Ok, Err, Result}
-use Rattle.std.specs.List.{AllByRecursion as All}
+use Rattle.std.specs.List.{AllByRecursion}
 use Rattle.market.specs.declared.types.Refusal.{Refusal}
 use Rattle.board.specs.Quotes.{Quotes, Lawful}
 use Rattle.rules.specs.declared.types.Row.{Row}
@@ -27,9 +27,9 @@ RangedAnswer (Ok w) = (w.arrival ≤ 1000000) × (w.«open» ≤ 1000000) × (w.
 RangedAnswer (Err e) = Unit {0}
 
 abbrev pub RangedEntry : Entry → Type 0
-RangedEntry e = RangedAnswer e.answer × All RangedRow e.rows
+RangedEntry e = RangedAnswer e.answer × AllByRecursion RangedRow e.rows
 
 abbrev pub TapeRanged : Type 0
 TapeRanged =
     (ranking : Ranking) → Ranks ranking → (b : Quotes) → Lawful b → (cs : List (Call × ℕ))
-    → All RangedEntry (tape (terms ranking) (fresh b) cs)
+    → AllByRecursion RangedEntry (tape (terms ranking) (fresh b) cs)

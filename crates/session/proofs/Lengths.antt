@@ -1,6 +1,6 @@
 -- How long the text of a session is. Rests on the ranges of the figures of a tape and on the count of its rows.
 use Rattle.std.proofs.Common.{◌≡◌, ℕ, zero, suc, ◌+◌, ◌*◌, ◌≤◌, List, [], ◌∷◌, ◌++◌, length, Some, None, Ok, Err, Option, Result, refl, arith, lit≤, length-append}
-use Rattle.std.specs.List.{AllByRecursion as All}
+use Rattle.std.specs.List.{AllByRecursion}
 use Rattle.std.proofs.lemmas.Fmt.{length-decimal-le}
 use Rattle.std.proofs.lemmas.Bool.Decides.{nat_tests}
 use Rattle.std.proofs.ByRecursion.{All-weaker}
@@ -75,7 +75,7 @@ row_short (Route arrival market price shares) h =
     let k = four_short arrival market price shares h.0.1 (omega arith) h.2.1 h.3.1 in
     omega arith
 
-rows_short : (rs : List Row) → All RangedRow rs → length (rows_text rs) ≤ 34 * length rs
+rows_short : (rs : List Row) → AllByRecursion RangedRow rs → length (rows_text rs) ≤ 34 * length rs
 rows_short [] h = omega arith
 rows_short (r ∷ rs) h =
     let one = row_short r h.0 in
@@ -92,7 +92,7 @@ labelled (Cut arrival shares) h = lit≤ tt
 labelled (Cancel arrival) h = lit≤ tt
 labelled (Post market side price shares) h = lit≤ tt
 
-entries_short : (lines : List Line) (es : List Entry) → All Labelled lines → All RangedEntry es → length (entries_text lines es) ≤ 45 * length lines + 34 * rows_in es
+entries_short : (lines : List Line) (es : List Entry) → AllByRecursion Labelled lines → AllByRecursion RangedEntry es → length (entries_text lines es) ≤ 45 * length lines + 34 * rows_in es
 entries_short [] es l h = omega arith
 entries_short (line ∷ lines) [] l h = omega arith
 entries_short (line ∷ lines) (e ∷ es) l h =

@@ -1,6 +1,6 @@
 -- The lines of a session played one by one: what is written, and the text of those that are left, make the whole. Assumes nothing.
 use Rattle.std.proofs.Common.{◌≡◌, ℕ, zero, suc, ◌+◌, ◌<◌, ◌≤◌, true, List, [], ◌∷◌, ◌++◌, length, take, drop, is_some, Some, None, Ok, Err, Option, Result, sym, refl, ap, ◌∙◌, subst, append_assoc, append-nil, arith, length-append, length-take}
-use Rattle.std.specs.List.{AllByRecursion as All}
+use Rattle.std.specs.List.{AllByRecursion}
 use Rattle.std.proofs.lemmas.List.{length-take-le, drop_all}
 use Rattle.std.proofs.lemmas.Bool.{cond_both}
 use Rattle.market.specs.declared.types.Refusal.{Refusal}
@@ -160,7 +160,7 @@ body_there None lines i h e = absurd (never lines i h e)
     never (line ∷ lines) zero h e = let z : ◌≡◌ {A = ℕ} 0 1 = cc in omega arith
     never (line ∷ lines) (suc i) h e = never lines i (omega arith) e
 
-pub all_nth : (P : Line → Type 0) (lines : List Line) (i : ℕ) (line : Line) → All P lines → nth i lines ≡ Some line → P line
+pub all_nth : (P : Line → Type 0) (lines : List Line) (i : ℕ) (line : Line) → AllByRecursion P lines → nth i lines ≡ Some line → P line
 all_nth P [] i line h e = absurd (let z : ◌≡◌ {A = ℕ} 0 1 = cc in omega arith)
 all_nth P (l ∷ lines) zero line h e = let j : l ≡ line = cc in subst P j h.0
 all_nth P (l ∷ lines) (suc i) line h e = all_nth P lines i line h.1 e

@@ -1,7 +1,7 @@
 -- What the writers of a shelf keep: its order, and what stands on it. For every kind of thing, key, label and total order.
 -- Rests on Order and Standing.
 use Rattle.std.specs.Prelude.{◌≡◌, ℕ, ◌+◌, Bool, cond, List, [], ◌∷◌, ◌++◌, Some, None, Option, ◌≢◌, slice_set}
-use Rattle.std.specs.List.{AllByRecursion as All, remove}
+use Rattle.std.specs.List.{AllByRecursion, remove}
 use Rattle.shelf.specs.Order.{Total, Sorted}
 use Rattle.shelf.specs.Standing.{put_in, nth}
 
@@ -58,7 +58,7 @@ by ahead key x y = ahead (key x) (key y)
 abbrev pub PutKeepsOrder : Type 0 → Type 0 → Type 0
 PutKeepsOrder A K =
     (label : K → ℕ) (ahead : K → K → Bool) (key : A → K) → Total label ahead → (x : A) (xs : List A)
-    → All (λ y. label (key x) ≢ label (key y)) xs → Sorted (by ahead key) xs → Sorted (by ahead key) (put_in (by ahead key) x xs)
+    → AllByRecursion (λ y. label (key x) ≢ label (key y)) xs → Sorted (by ahead key) xs → Sorted (by ahead key) (put_in (by ahead key) x xs)
 
 -- A take-out keeps a sorted shelf sorted.
 abbrev pub TakeOutKeepsOrder : Type 0 → Type 0 → Type 0
@@ -73,7 +73,7 @@ ReplaceKeepsOrder A K =
 
 -- what a write asks so that the order stays: a thing put in has a label of its own, a thing that replaces another its key
 abbrev pub Fits : {A K : Type 0} → (K → ℕ) → (A → K) → Write A → List A → Type 0
-Fits label key (Put x) xs = All (λ y. label (key x) ≢ label (key y)) xs
+Fits label key (Put x) xs = AllByRecursion (λ y. label (key x) ≢ label (key y)) xs
 Fits label key (TakeOut at) xs = Unit {0}
 Fits {A} label key (Replace at y) xs = (x : A) → nth at xs ≡ Some x → key y ≡ key x
 

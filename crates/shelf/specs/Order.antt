@@ -1,7 +1,7 @@
 -- What a total order by a label is, and how one is made of several figures.
 -- Rests on numbers and lists alone: nothing here knows of orders or quotations.
 use Rattle.std.specs.Prelude.{◌≡◌, ℕ, Bool, true, false, cond, ◌⊎◌, List, [], ◌∷◌, ◌==◌, ◌≢◌}
-use Rattle.std.specs.List.{AllByRecursion as All}
+use Rattle.std.specs.List.{AllByRecursion}
 
 -- Nothing is ahead of itself; ahead is transitive; of two keys of different labels one is ahead.
 -- Two keys of one label need not be comparable.
@@ -17,7 +17,7 @@ lex f lt next a b = cond (f a == f b) (next a b) (lt (f a) (f b))
 -- the relation holds from each thing to each that stands behind it
 abbrev pub Pairwise : {A : Type 0} → (A → A → Type 0) → List A → Type 0
 Pairwise R [] = Unit {0}
-Pairwise R (x ∷ xs) = All (R x) xs × Pairwise R xs
+Pairwise R (x ∷ xs) = AllByRecursion (R x) xs × Pairwise R xs
 
 -- each stands ahead of all behind it
 abbrev pub Sorted : {A : Type 0} → (A → A → Bool) → List A → Type 0
