@@ -1,4 +1,4 @@
-//! Links the proved library, which `rt staticlib session` writes to target/staticlib.
+//! Links the proved library, which `./build` writes to target/staticlib.
 
 use std::path::Path;
 

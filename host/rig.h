@@ -2,8 +2,8 @@
  * The rig from C: one session file in, its listing out.
  *
  * docs/SESSION_FILE.md has the format of both, docs/REFUSALS.md the refusals. Link
- * target/staticlib/libsession.a, which `rt staticlib session` writes. It allocates nothing, keeps
- * nothing between calls and calls no function of the C library.
+ * target/staticlib/libsession.a, which `./build` writes. It allocates nothing, keeps nothing between
+ * calls and calls no function of the C library but memset.
  */
 #ifndef RIG_H
 #define RIG_H

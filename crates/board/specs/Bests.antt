@@ -1,4 +1,5 @@
 -- What the best of the markets says of each of them: none has one, or none has a better one. Assumes nothing.
+-- Lemmas, which nobody has to believe: they stand beside the definitions, since the law of an impl cites them.
 use Rattle.std.specs.Prelude.{◌≡◌, ℕ, zero, suc, ◌<◌, ◌≤◌, true, false, ◌⊎◌, Some, None, Option, ◌≢◌, refl}
 use Rattle.std.proofs.Common.{sym, ap, ◌∙◌, inl, inr, ⊎_elim, arith}
 use Rattle.std.proofs.lemmas.Bool.Decides.{nat_tests}
@@ -33,7 +34,7 @@ module _ (b : Quotes) (s : Side) where
       (λ (t : m ≡ suc n → ⊥). best_none n p.0 m h (let g : (m ≢ suc n) = t in omega arith))
       (cases_eq m (suc n))
 
--- which of the two a better-of keeps
+-- which of the two `better_of` keeps
 abbrev Kept : Side → ℕ → Option Best → Option Quote → Best → Type 0
 Kept s k r q x =
     ((r ≡ Some x) × ((y : Quote) → q ≡ Some y → better s y.price x.quote.price ≡ false))

@@ -1,4 +1,5 @@
 -- What a ladder's sides keep, that there is always room, and that the first level is the best. Assumes nothing.
+-- Lemmas, which nobody has to believe: they stand beside the definitions, since the law of an impl cites them.
 use Rattle.std.specs.Prelude.{◌≡◌, ℕ, zero, suc, ◌<◌, ◌≤◌, true, false, not, ◌&&◌, List, [], ◌∷◌, length, Some, None, Option, ◌==◌, ◌≢◌, refl}
 use Rattle.std.proofs.Common.{sym, ap, ◌∙◌, subst, inl, inr, ⊎_elim, arith}
 use Rattle.std.proofs.Math.Path.{fun_ext}

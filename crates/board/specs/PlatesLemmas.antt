@@ -1,4 +1,5 @@
 -- What a plate's tables mean: one write, and that they are lawful. Assumes nothing.
+-- Lemmas, which nobody has to believe: they stand beside the definitions, since the law of an impl cites them.
 use Rattle.std.specs.Prelude.{◌≡◌, ℕ, zero, suc, ◌+◌, ◌<◌, true, false, cond, List, length, is_some, Some, None, Option, ◌==◌, slice_index_or, slice_set, refl}
 use Rattle.std.proofs.Common.{sym, ap, ◌∙◌, ⊎_elim, add-one, arith}
 use Rattle.std.proofs.Math.Path.{fun_ext}

@@ -8,7 +8,7 @@ use Rattle.board.specs.Quotes.{Quotes, post_answer, posted, with_quote, if_ok}
 use Rattle.rules.specs.declared.types.Order.{Order}
 use Rattle.rules.specs.declared.types.Located.{Located}
 use Rattle.rules.specs.Calls.{Market, Terms, Outcome, of_side, with_side, taken_off, at_rest, outcome, decided, cancel_refusal, cancelled, cancel, cut_refusal, cut_to, cut_stayed, cut, leaves, market, post_accepted, post}
-use Rattle.book.specs.Held.{same_behind}
+use Rattle.book.specs.Held.{SameBehind}
 use Rattle.shelf.proofs.Cells.{drop_later}
 
 pub taken_off_at : (m : Market) (l : Located) (side : Side) (os : List Order) → l.side ≡ side → os ≡ remove (of_side side m) l.place → with_side side os m ≡ taken_off m l
@@ -16,7 +16,7 @@ taken_off_at m l side os e f =
     ap (λ x. with_side side x m) f ∙ ap (λ s. with_side s (remove (of_side s m) l.place) m) (sym e)
 
 -- cells that two changes left behind what stood and stands; the first made no more stand
-pub behind_twice : (xs ys zs : List Order) (a b c : ℕ) → b ≤ a → same_behind a b xs ys → same_behind b c ys zs → same_behind a c xs zs
+pub behind_twice : (xs ys zs : List Order) (a b c : ℕ) → b ≤ a → SameBehind a b xs ys → SameBehind b c ys zs → SameBehind a c xs zs
 behind_twice xs ys zs a b c h e f =
     drop_later zs ys (max b c) (max a c) (omega arith) f ∙ drop_later ys xs (max a b) (max a c) (omega arith) e
 

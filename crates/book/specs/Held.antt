@@ -11,15 +11,15 @@ abbrev pub held : {R : Type 0} → Book R → List Order → List Order → Quot
 held k bids offers b = market (take k.bids bids) (take k.offers offers) b k.arrivals
 
 -- the cells behind those where orders stood or stand keep what they had
-abbrev pub same_behind : ℕ → ℕ → List Order → List Order → Type 0
-same_behind n m old new = drop (max n m) new ≡ drop (max n m) old
+abbrev pub SameBehind : ℕ → ℕ → List Order → List Order → Type 0
+SameBehind n m old new = drop (max n m) new ≡ drop (max n m) old
 
 -- a refused call leaves the book and the cells of both sides as they were; an accepted one leaves
 -- the ranking and the cells behind
-abbrev pub cells_kept : {A R : Type 0} → Result A Refusal → Book R → Book R → List Order → List Order → List Order → List Order → Type 0
-cells_kept (Ok a) k k' bids bids' offers offers' =
-    (k'.ranking ≡ k.ranking) × same_behind k.bids k'.bids bids bids' × same_behind k.offers k'.offers offers offers'
-cells_kept (Err e) k k' bids bids' offers offers' = (k' ≡ k) × (bids' ≡ bids) × (offers' ≡ offers)
+abbrev pub CellsKept : {A R : Type 0} → Result A Refusal → Book R → Book R → List Order → List Order → List Order → List Order → Type 0
+CellsKept (Ok a) k k' bids bids' offers offers' =
+    (k'.ranking ≡ k.ranking) × SameBehind k.bids k'.bids bids bids' × SameBehind k.offers k'.offers offers offers'
+CellsKept (Err e) k k' bids bids' offers offers' = (k' ≡ k) × (bids' ≡ bids) × (offers' ≡ offers)
 
 -- a question answers its figure, unless it is refused
 abbrev pub asked_for : {A : Type 0} → Option Refusal → A → Result A Refusal

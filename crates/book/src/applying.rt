@@ -1,8 +1,8 @@
 // One call of the four that change a market, with everything that a call is handed.
 ghost use Rattle.std.specs.Prelude.{◌≡◌, true, List, [], length};
 ghost use Rattle.rules.specs.declared.types.Row.{Row};
-ghost use Rattle.rules.specs.Calls.{cells_ok, cells_refusal, decided, outcome, rows_in, rows_kept, terms, apply, post};
-ghost use Rattle.book.specs.Held.{held, cells_kept};
+ghost use Rattle.rules.specs.Calls.{cells_ok, cells_refusal, decided, outcome, rows_in, RowsKept, terms, apply, post};
+ghost use Rattle.book.specs.Held.{held, CellsKept};
 ghost use Rattle.book.specs.Tapes.{GoesOnFairly};
 
 use super::book::Book;
@@ -25,7 +25,7 @@ impl<R: Ranking + Copy> Book<R> {
         board: &mut B,
     ) -> Result<Accepted, Refusal>
         ensures outcome { outcome result [] (held self.now bids.now offers.now (B.quotes board.new)) ≡ decided (cells_refusal (length bids.now) (length offers.now)) (held self.now bids.now offers.now (B.quotes board.old)) (post (held self.now bids.now offers.now (B.quotes board.old)) market side price shares) }
-        ensures rows { (report : List Row) → (rows_in result report ≡ []) × rows_kept result report report }
+        ensures rows { (report : List Row) → (rows_in result report ≡ []) × RowsKept result report report }
     {
         if !has_cells(bids, offers) {
             return Err(Refusal::SideCells);
@@ -51,8 +51,8 @@ impl<R: Ranking + Copy> Book<R> {
         report: &mut [Row],
     ) -> Result<Accepted, Refusal>
         ensures outcome { outcome result (rows_in result report.new) (held self.new bids.new offers.new (B.quotes board.new)) ≡ decided (cells_refusal (length bids.old) (length offers.old)) (held self.old bids.old offers.old (B.quotes board.old)) (apply (terms (R.ranked self.old.ranking)) (held self.old bids.old offers.old (B.quotes board.old)) call (length report.old)) }
-        ensures cells { cells_kept result self.old self.new bids.old bids.new offers.old offers.new }
-        ensures rows { rows_kept result report.old report.new }
+        ensures cells { CellsKept result self.old self.new bids.old bids.new offers.old offers.new }
+        ensures rows { RowsKept result report.old report.new }
     {
         match call {
             Call::Enter {
@@ -84,8 +84,8 @@ impl<R: Ranking + Copy> Book<R> {
         report: &mut [Row],
     ) -> Result<Accepted, Refusal>
         ensures outcome { outcome result (rows_in result report.new) (held self.new bids.new offers.new (B.quotes board.new)) ≡ decided (cells_refusal (length bids.old) (length offers.old)) (held self.old bids.old offers.old (B.quotes board.old)) (apply (terms (R.ranked self.old.ranking)) (held self.old bids.old offers.old (B.quotes board.old)) call (length report.old)) }
-        ensures cells { cells_kept result self.old self.new bids.old bids.new offers.old offers.new }
-        ensures rows { rows_kept result report.old report.new }
+        ensures cells { CellsKept result self.old self.new bids.old bids.new offers.old offers.new }
+        ensures rows { RowsKept result report.old report.new }
         ensures tape { cells_ok (length bids.old) (length offers.old) ≡ true → GoesOnFairly (R.ranked self.old.ranking) (held self.old bids.old offers.old (B.quotes board.old)) call (length report.old) (outcome result (rows_in result report.new) (held self.new bids.new offers.new (B.quotes board.new))) }
     {
         self.make_call(call, bids, offers, board, report)

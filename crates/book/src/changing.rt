@@ -2,9 +2,9 @@
 ghost use Rattle.std.specs.Prelude.{◌≡◌, ℕ, ◌<◌, ◌≤◌, List, [], length, IfSome};
 ghost use Rattle.board.specs.Quotes.{Quotes};
 ghost use Rattle.rules.specs.declared.types.Row.{Row};
-ghost use Rattle.rules.specs.Calls.{located, leaves, cut_down, taken_off, put_on, cells_refusal, decided, outcome, terms, cancel, cut, rows_in, rows_kept};
+ghost use Rattle.rules.specs.Calls.{located, leaves, cut_down, taken_off, put_on, cells_refusal, decided, outcome, terms, cancel, cut, rows_in, RowsKept};
 ghost use Rattle.book.specs.Counts.{count_of, side_of};
-ghost use Rattle.book.specs.Held.{held, cells_kept, same_behind};
+ghost use Rattle.book.specs.Held.{held, CellsKept, SameBehind};
 
 use super::book::Book;
 use super::entering::has_cells;
@@ -74,8 +74,8 @@ impl<R: Ranking + Copy> Book<R> {
         ensures fewer { (self.new.bids ≤ self.old.bids) × (self.new.offers ≤ self.old.offers) }
         ensures room { count_of at.now.side self.new.bids self.new.offers < 128 }
         ensures ranking { self.new.ranking ≡ self.old.ranking }
-        ensures bids { same_behind self.old.bids self.new.bids bids.old bids.new }
-        ensures offers { same_behind self.old.offers self.new.offers offers.old offers.new }
+        ensures bids { SameBehind self.old.bids self.new.bids bids.old bids.new }
+        ensures offers { SameBehind self.old.offers self.new.offers offers.old offers.new }
     {
         match at.side {
             Side::Buy => {
@@ -96,8 +96,8 @@ impl<R: Ranking + Copy> Book<R> {
         requires { (length bids.old ≡ 128) × ((length offers.old ≡ 128) × (count_of side self.old.bids self.old.offers < 128)) }
         ensures market { (b : Quotes) → held self.new bids.new offers.new b ≡ put_on (R.ranked self.old.ranking) side order (held self.old bids.old offers.old b) }
         ensures ranking { self.new.ranking ≡ self.old.ranking }
-        ensures bids { same_behind self.old.bids self.new.bids bids.old bids.new }
-        ensures offers { same_behind self.old.offers self.new.offers offers.old offers.new }
+        ensures bids { SameBehind self.old.bids self.new.bids bids.old bids.new }
+        ensures offers { SameBehind self.old.offers self.new.offers offers.old offers.new }
     {
         let precedence = Sided {
             side,
@@ -125,8 +125,8 @@ impl<R: Ranking + Copy> Book<R> {
         offers: &mut [Order],
     ) -> Result<Accepted, Refusal>
         ensures outcome { (b : Quotes) → outcome result [] (held self.new bids.new offers.new b) ≡ decided (cells_refusal (length bids.old) (length offers.old)) (held self.old bids.old offers.old b) (cancel (held self.old bids.old offers.old b) arrival) }
-        ensures cells { cells_kept result self.old self.new bids.old bids.new offers.old offers.new }
-        ensures rows { (report : List Row) → (rows_in result report ≡ []) × rows_kept result report report }
+        ensures cells { CellsKept result self.old self.new bids.old bids.new offers.old offers.new }
+        ensures rows { (report : List Row) → (rows_in result report ≡ []) × RowsKept result report report }
     {
         if !has_cells(bids, offers) {
             return Err(Refusal::SideCells);
@@ -148,8 +148,8 @@ impl<R: Ranking + Copy> Book<R> {
         offers: &mut [Order],
     ) -> Result<Accepted, Refusal>
         ensures outcome { (b : Quotes) → outcome result [] (held self.new bids.new offers.new b) ≡ decided (cells_refusal (length bids.old) (length offers.old)) (held self.old bids.old offers.old b) (cut (terms (R.ranked self.old.ranking)) (held self.old bids.old offers.old b) arrival shares) }
-        ensures cells { cells_kept result self.old self.new bids.old bids.new offers.old offers.new }
-        ensures rows { (report : List Row) → (rows_in result report ≡ []) × rows_kept result report report }
+        ensures cells { CellsKept result self.old self.new bids.old bids.new offers.old offers.new }
+        ensures rows { (report : List Row) → (rows_in result report ≡ []) × RowsKept result report report }
     {
         if !has_cells(bids, offers) {
             return Err(Refusal::SideCells);

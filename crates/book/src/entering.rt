@@ -3,9 +3,9 @@ ghost use Rattle.std.specs.Prelude.{◌≡◌, ℕ, ◌+◌, ◌<◌, ◌≤◌,
 ghost use Rattle.board.specs.Quotes.{Quotes};
 ghost use Rattle.rules.specs.Orders.{cancels};
 ghost use Rattle.rules.specs.Sweeps.{standing, swept, with_open, measured_sweep};
-ghost use Rattle.rules.specs.Calls.{cells_ok, cells_refusal, enter_refusal, own_after, entered, decided, outcome, rows_in, rows_kept, terms, enter, fresh};
+ghost use Rattle.rules.specs.Calls.{cells_ok, cells_refusal, enter_refusal, own_after, entered, decided, outcome, rows_in, RowsKept, terms, enter, fresh};
 ghost use Rattle.book.specs.Counts.{count_of};
-ghost use Rattle.book.specs.Held.{held, cells_kept};
+ghost use Rattle.book.specs.Held.{held, CellsKept};
 
 use super::book::Book;
 use super::kinds::{is_cancelled, is_ilo, is_olo, is_too_small, mtv_of};
@@ -182,8 +182,8 @@ impl<R: Ranking + Copy> Book<R> {
         report: &mut [Row],
     ) -> Result<Accepted, Refusal>
         ensures outcome { outcome result (rows_in result report.new) (held self.new bids.new offers.new (B.quotes board.new)) ≡ decided (cells_refusal (length bids.old) (length offers.old)) (held self.old bids.old offers.old (B.quotes board.old)) (enter (terms (R.ranked self.old.ranking)) (held self.old bids.old offers.old (B.quotes board.old)) side price kind shares (length report.old)) }
-        ensures cells { cells_kept result self.old self.new bids.old bids.new offers.old offers.new }
-        ensures rows { rows_kept result report.old report.new }
+        ensures cells { CellsKept result self.old self.new bids.old bids.new offers.old offers.new }
+        ensures rows { RowsKept result report.old report.new }
     {
         if !has_cells(bids, offers) {
             return Err(Refusal::SideCells);

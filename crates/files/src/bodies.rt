@@ -42,7 +42,6 @@ fn with_next<T: Drop>(read: Result<T, Fault>, next: usize) -> Option<Said<T>>
 }
 
 fn number_at(body: &[u8], at: usize) -> Option<Said<u32>>
-    requires { length body.now ≤ 65535 }
     ensures { elim result [ None ↦ said number 0 (left at body.now) ≡ None | Some t ↦ Says number (left at body.now) t.value (left t.next body.now) ] }
 {
     let Some(field) = field_at(body, at) else {
@@ -52,7 +51,6 @@ fn number_at(body: &[u8], at: usize) -> Option<Said<u32>>
 }
 
 fn side_at(body: &[u8], at: usize) -> Option<Said<Side>>
-    requires { length body.now ≤ 65535 }
     ensures { elim result [ None ↦ said side_letter 0 (left at body.now) ≡ None | Some t ↦ Says side_letter (left at body.now) t.value (left t.next body.now) ] }
 {
     let Some(field) = field_at(body, at) else {
@@ -62,7 +60,6 @@ fn side_at(body: &[u8], at: usize) -> Option<Said<Side>>
 }
 
 fn first_letter(body: &[u8], at: usize) -> Option<Said<Letter>>
-    requires { length body.now ≤ 65535 }
     ensures { elim result [ None ↦ said first_letter 0 (left at body.now) ≡ None | Some t ↦ Says first_letter (left at body.now) t.value (left t.next body.now) ] }
 {
     let Some(field) = field_at(body, at) else {
@@ -72,7 +69,6 @@ fn first_letter(body: &[u8], at: usize) -> Option<Said<Letter>>
 }
 
 fn kind_letter(body: &[u8], at: usize) -> Option<Said<KindLetter>>
-    requires { length body.now ≤ 65535 }
     ensures { elim result [ None ↦ said kind_letter 0 (left at body.now) ≡ None | Some t ↦ Says kind_letter (left at body.now) t.value (left t.next body.now) ] }
 {
     let Some(field) = field_at(body, at) else {
@@ -82,7 +78,6 @@ fn kind_letter(body: &[u8], at: usize) -> Option<Said<KindLetter>>
 }
 
 fn routing_at(body: &[u8], at: usize) -> Option<Said<Routing>>
-    requires { length body.now ≤ 65535 }
     ensures { elim result [ None ↦ said routing_digit 0 (left at body.now) ≡ None | Some t ↦ Says routing_digit (left at body.now) t.value (left t.next body.now) ] }
 {
     let Some(field) = field_at(body, at) else {
@@ -92,7 +87,6 @@ fn routing_at(body: &[u8], at: usize) -> Option<Said<Routing>>
 }
 
 fn mark_at(body: &[u8], at: usize) -> Option<Said<Mark>>
-    requires { length body.now ≤ 65535 }
     ensures { elim result [ None ↦ said mark_letter 0 (left at body.now) ≡ None | Some t ↦ Says mark_letter (left at body.now) t.value (left t.next body.now) ] }
 {
     let Some(field) = field_at(body, at) else {
@@ -124,7 +118,6 @@ fn plain(body: &[u8], at: usize, kind: Kind) -> Option<Kind>
 }
 
 fn ilo(body: &[u8], at: usize) -> Option<Kind>
-    requires { length body.now ≤ 65535 }
     ensures { result ≡ ilo_of (past 6 (left at body.now)) }
 {
     let Said {
@@ -142,7 +135,6 @@ fn ilo(body: &[u8], at: usize) -> Option<Kind>
 
 // The kind of a letter, with the fields of an ILO that stand behind the shares.
 fn kind_of(letter: KindLetter, body: &[u8], at: usize) -> Option<Kind>
-    requires { length body.now ≤ 65535 }
     ensures { result ≡ kind_from (past 6 (left at body.now)) letter }
 {
     match letter {
@@ -154,7 +146,6 @@ fn kind_of(letter: KindLetter, body: &[u8], at: usize) -> Option<Kind>
 }
 
 fn new_order(body: &[u8], at: usize) -> Option<Body<'_>>
-    requires { length body.now ≤ 65535 }
     ensures { line_in result ≡ new_of (past 1 (left at body.now)) }
 {
     let label = label_at(body, at)?;
@@ -179,7 +170,6 @@ fn new_order(body: &[u8], at: usize) -> Option<Body<'_>>
 }
 
 fn cut(body: &[u8], at: usize) -> Option<Body<'_>>
-    requires { length body.now ≤ 65535 }
     ensures { line_in result ≡ cut_of (past 1 (left at body.now)) }
 {
     let Said {
@@ -198,7 +188,6 @@ fn cut(body: &[u8], at: usize) -> Option<Body<'_>>
 }
 
 fn cancel(body: &[u8], at: usize) -> Option<Body<'_>>
-    requires { length body.now ≤ 65535 }
     ensures { line_in result ≡ cancel_of (past 1 (left at body.now)) }
 {
     let Said {
@@ -213,7 +202,6 @@ fn cancel(body: &[u8], at: usize) -> Option<Body<'_>>
 }
 
 fn post(body: &[u8], at: usize) -> Option<Body<'_>>
-    requires { length body.now ≤ 65535 }
     ensures { line_in result ≡ post_of (past 1 (left at body.now)) }
 {
     let Said {
@@ -239,7 +227,6 @@ fn post(body: &[u8], at: usize) -> Option<Body<'_>>
 }
 
 pub fn read_body(body: &[u8]) -> Option<Body<'_>>
-    requires { length body.now ≤ 65535 }
     ensures { line_in result ≡ read_line body.now }
 {
     let Said {

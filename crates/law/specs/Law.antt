@@ -32,12 +32,12 @@ TapeLaw =
     → FairTape ranking (empty_account b) (tape (terms ranking) (fresh b) cs)
 
 -- one more call adds its entry at the end, at the market that the calls before it leave
-pub record Goes_on (t : Terms) (m : Market) (cs : List (Call × ℕ)) (c : Call) (room : ℕ) : Type 0 where
+pub record GoesOn (t : Terms) (m : Market) (cs : List (Call × ℕ)) (c : Call) (room : ℕ) : Type 0 where
   pub tape_is : tape t m (cs ++ (c, room) ∷ []) ≡ tape t m cs ++ entry c room (apply t (after t m cs) c room) ∷ []
   pub after_is : after t m (cs ++ (c, room) ∷ []) ≡ (apply t (after t m cs) c room).market
 
 abbrev pub TapeGoesOn : Type 0
-TapeGoesOn = (t : Terms) (m : Market) (cs : List (Call × ℕ)) (c : Call) (room : ℕ) → Goes_on t m cs c room
+TapeGoesOn = (t : Terms) (m : Market) (cs : List (Call × ℕ)) (c : Call) (room : ℕ) → GoesOn t m cs c room
 
 -- What one call owes to the law: whatever history led to the market m, the tape of that history and
 -- of this call passes the judge.

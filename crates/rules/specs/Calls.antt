@@ -258,6 +258,6 @@ rows_in (Ok a) report = take a.rows report
 rows_in (Err e) report = []
 
 -- a refusal leaves the report as it was, and an acceptance the rows behind its own
-abbrev pub rows_kept : Result Accepted Refusal → List Row → List Row → Type 0
-rows_kept (Ok a) old new = drop a.rows new ≡ drop a.rows old
-rows_kept (Err e) old new = new ≡ old
+abbrev pub RowsKept : Result Accepted Refusal → List Row → List Row → Type 0
+RowsKept (Ok a) old new = drop a.rows new ≡ drop a.rows old
+RowsKept (Err e) old new = new ≡ old

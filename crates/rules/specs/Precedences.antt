@@ -1,4 +1,5 @@
 -- The order of a side is total by arrival, for both sides and every lawful ranking. Assumes nothing.
+-- Lemmas, which nobody has to believe: they stand beside the definitions, since the law of an impl cites them.
 use Rattle.std.specs.Prelude.{◌≡◌, ℕ, true, false, cond, not, ltb, ◌⊎◌, ◌≢◌, nat_lt}
 use Rattle.std.proofs.Common.{sym, ap, ◌∙◌, inl, inr, ⊎_elim}
 use Rattle.std.proofs.lemmas.Bool.{cases_eq, cases_Bool, eq-eqb, ne_eqb}

@@ -19,7 +19,7 @@ use Rattle.rules.specs.Calls.{Market, Outcome, Terms, of_side, outcome, decided,
 use Rattle.rules.specs.Sweeps.{standing, measured_sweep}
 use Rattle.law.specs.Law.{entry, after, tape}
 use Rattle.book.specs.declared.book.Book.{Book}
-use Rattle.book.specs.Held.{cells_kept}
+use Rattle.book.specs.Held.{CellsKept}
 use Rattle.files.specs.declared.types.Body.{Body}
 use Rattle.files.specs.Lines.{Line, line_in}
 use Rattle.session.specs.Calls.{call_of}
@@ -146,7 +146,7 @@ entry_wrote line o label r rows listed m at mid end old between new is_label is-
     (subst (λ l. Wrote at old end new (answer_text l r ++ rows_text listed)) is_label
     (wrote_then at mid end old between new (answer_text label r) (rows_text listed) w v)))
 
-pub ranking_kept : {A R : Type 0} (r : Result A Refusal) (k n : Book R) (bids bids' offers offers' : List Order) → cells_kept r k n bids bids' offers offers' → n.ranking ≡ k.ranking
+pub ranking_kept : {A R : Type 0} (r : Result A Refusal) (k n : Book R) (bids bids' offers offers' : List Order) → CellsKept r k n bids bids' offers offers' → n.ranking ≡ k.ranking
 ranking_kept (Ok a) k n bids bids' offers offers' h = h.0
 ranking_kept {R = R} (Err e) k n bids bids' offers offers' h = ap (λ (x : Book R). x.ranking) h.0
 

@@ -214,6 +214,7 @@ pub fn rig_session(file: &[u8], listing: &mut [u8]) -> u32
     ensures answer { result ≡ host_number (answer_of size_time no_quotes (session_lines (length listing.old) file.now)) }
     ensures listing { listing.new ≡ listing_after size_time no_quotes (session_lines (length listing.old) file.now) listing.old }
     ensures fair { FairSession size_time no_quotes (session_lines (length listing.old) file.now) }
+    ensures short { Short (answer_of size_time no_quotes (session_lines (length listing.old) file.now)) }
 {
     match run_session(file, listing) {
         Ok(length) => length as u32,

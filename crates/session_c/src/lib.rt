@@ -4,7 +4,7 @@
 
 ghost use Rattle.std.specs.Prelude.{◌≡◌, length};
 ghost use Rattle.rules.specs.Rankings.{size_time};
-ghost use Rattle.session.specs.Sessions.{answer_of, host_number, listing_after, no_quotes, session_lines, FairSession};
+ghost use Rattle.session.specs.Sessions.{answer_of, host_number, listing_after, no_quotes, session_lines, FairSession, Short};
 
 use session::running;
 
@@ -14,6 +14,7 @@ pub extern "C" fn rig_session(file: &[u8], listing: &mut [u8]) -> u32
     ensures answer { result ≡ host_number (answer_of size_time no_quotes (session_lines (length listing.old) file.now)) }
     ensures listing { listing.new ≡ listing_after size_time no_quotes (session_lines (length listing.old) file.now) listing.old }
     ensures fair { FairSession size_time no_quotes (session_lines (length listing.old) file.now) }
+    ensures short { Short (answer_of size_time no_quotes (session_lines (length listing.old) file.now)) }
 {
     running::rig_session(file, listing)
 }
