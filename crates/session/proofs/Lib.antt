@@ -2,3 +2,4 @@ mod Writing
 mod Lengths
 mod Playing
 mod Sessions
+mod Ending

@@ -1,6 +1,6 @@
 -- What a session comes to, a listing or one refusal, and what it leaves of what it was handed.
 -- Rests on the reading of a file, on the tape that the rules give, and on the text of a listing.
-use Rattle.std.specs.Prelude.{ℕ, ◌+◌, ◌≤◌, cond, List, [], ◌∷◌, ◌++◌, length, drop, None, Ok, Err, Result, nat_lt}
+use Rattle.std.specs.Prelude.{◌≡◌, ℕ, ◌+◌, ◌≤◌, cond, List, [], ◌∷◌, ◌++◌, length, drop, Some, None, Ok, Err, Option, Result, nat_lt}
 use Rattle.market.specs.declared.types.Refusal.{Refusal}
 use Rattle.market.specs.declared.types.Refusal.TheVariants.{ShortListing}
 use Rattle.market.specs.Refusals.{number_of}
@@ -13,7 +13,7 @@ use Rattle.law.specs.Tape.{Entry, empty_account}
 use Rattle.law.specs.Law.{after, tape, FairTape}
 use Rattle.files.specs.Lines.{Line}
 use Rattle.session.specs.Calls.{call_of}
-use Rattle.files.specs.Files.{read_file}
+use Rattle.files.specs.Files.{read_file, refusal_of}
 use Rattle.session.specs.Listing.{listing_text, refusal_text}
 
 -- the calls that lines make, each with a report of 144 rows
@@ -65,6 +65,16 @@ FairSession ranking b (Err e) = Unit {0}
 abbrev pub Short : Result ℕ Refusal → Type 0
 Short (Ok n) = n ≤ 46000
 Short (Err e) = Unit {0}
+
+-- why a session is refused: a listing of fewer than 65,536 bytes comes before all else, and then the file
+abbrev pub session_refusal : ℕ → List ℕ → Option Refusal
+session_refusal room file = cond (nat_lt room 65536) (Some ShortListing) (refusal_of file)
+
+-- of a session alone, whatever its text: a refused one leaves every byte of the listing as it was, and
+-- one that runs leaves every byte behind those that it answers
+abbrev pub Ran : List ℕ → List ℕ → List ℕ → Result ℕ Refusal → Type 0
+Ran file old new (Ok n) = (session_refusal (length old) file ≡ None) × (n ≤ 65536) × (n ≤ length old) × (drop n new ≡ drop n old)
+Ran file old new (Err e) = (session_refusal (length old) file ≡ Some e) × (new ≡ old)
 
 -- a board without a quotation
 abbrev pub no_quotes : Quotes

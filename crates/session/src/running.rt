@@ -1,6 +1,7 @@
 // Running a session: all bodies are read before the first call runs, and then each is made a call
 // of a fresh book, whose answer and rows go into the listing.
-ghost use Rattle.std.specs.Prelude.{◌≡◌, ◌+◌, ◌≤◌, length, Ok};
+ghost use Rattle.std.specs.Prelude.{◌≡◌, ℕ, ◌+◌, ◌≤◌, length, Ok, Result};
+ghost use Rattle.market.specs.declared.types.Refusal.{Refusal};
 ghost use Rattle.rules.specs.Calls.{terms, apply, rows_in};
 ghost use Rattle.rules.specs.Rankings.{size_time};
 ghost use Rattle.law.specs.Law.{entry, after, tape};
@@ -9,7 +10,7 @@ ghost use Rattle.files.specs.Lines.{line_of};
 ghost use Rattle.session.specs.Calls.{call_of};
 ghost use Rattle.files.specs.Files.{read_file, lines_in};
 ghost use Rattle.session.specs.Listing.{label_text, entry_text, entries_text, Wrote};
-ghost use Rattle.session.specs.Sessions.{rows_count, calls, session_lines, answer_of, listing_after, quotes_after, written_over, no_quotes, printed, FairSession, Short, host_number};
+ghost use Rattle.session.specs.Sessions.{rows_count, calls, session_lines, answer_of, listing_after, quotes_after, written_over, no_quotes, printed, FairSession, Short, Ran, host_number};
 
 use crate::listing::{write_answer, write_light, write_refusal, write_rows};
 use board::Board;
@@ -159,6 +160,7 @@ pub fn run<R: Ranking + Copy, B: Board>(
     ensures board { B.quotes board.new ≡ quotes_after (R.ranked ranking) (B.quotes board.old) (session_lines (length listing.old) file.now) }
     ensures fair { FairSession (R.ranked ranking) (B.quotes board.old) (session_lines (length listing.old) file.now) }
     ensures short { Short result }
+    ensures ran { Ran file.now listing.old listing.new result }
 {
     if listing.len() < LISTING_BYTES {
         return Err(Refusal::ShortListing);
@@ -191,6 +193,7 @@ pub fn run_session(file: &[u8], listing: &mut [u8]) -> Result<usize, Refusal>
     ensures listing { listing.new ≡ listing_after size_time no_quotes (session_lines (length listing.old) file.now) listing.old }
     ensures fair { FairSession size_time no_quotes (session_lines (length listing.old) file.now) }
     ensures short { Short result }
+    ensures ran { Ran file.now listing.old listing.new result }
 {
     run(SizeTime, &mut Plate::new(), file, listing)
 }
@@ -215,6 +218,7 @@ pub fn rig_session(file: &[u8], listing: &mut [u8]) -> u32
     ensures listing { listing.new ≡ listing_after size_time no_quotes (session_lines (length listing.old) file.now) listing.old }
     ensures fair { FairSession size_time no_quotes (session_lines (length listing.old) file.now) }
     ensures short { Short (answer_of size_time no_quotes (session_lines (length listing.old) file.now)) }
+    ensures ran { (r : Result ℕ Refusal) × (result ≡ host_number r) × Ran file.now listing.old listing.new r }
 {
     match run_session(file, listing) {
         Ok(length) => length as u32,

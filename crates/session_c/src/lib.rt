@@ -2,9 +2,10 @@
 // of the same name and promises the same.
 #![tactic(auto)]
 
-ghost use Rattle.std.specs.Prelude.{◌≡◌, length};
+ghost use Rattle.std.specs.Prelude.{◌≡◌, ℕ, length, Result};
+ghost use Rattle.market.specs.declared.types.Refusal.{Refusal};
 ghost use Rattle.rules.specs.Rankings.{size_time};
-ghost use Rattle.session.specs.Sessions.{answer_of, host_number, listing_after, no_quotes, session_lines, FairSession, Short};
+ghost use Rattle.session.specs.Sessions.{answer_of, host_number, listing_after, no_quotes, session_lines, FairSession, Short, Ran};
 
 use session::running;
 
@@ -15,6 +16,7 @@ pub extern "C" fn rig_session(file: &[u8], listing: &mut [u8]) -> u32
     ensures listing { listing.new ≡ listing_after size_time no_quotes (session_lines (length listing.old) file.now) listing.old }
     ensures fair { FairSession size_time no_quotes (session_lines (length listing.old) file.now) }
     ensures short { Short (answer_of size_time no_quotes (session_lines (length listing.old) file.now)) }
+    ensures ran { (r : Result ℕ Refusal) × (result ≡ host_number r) × Ran file.now listing.old listing.new r }
 {
     running::rig_session(file, listing)
 }

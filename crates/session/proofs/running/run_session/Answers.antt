@@ -12,4 +12,5 @@ returns c =
       listing = rw empty at c.run.ensures.listing;
       fair = rw empty at c.run.ensures.fair;
       short = c.run.ensures.short;
+      ran = c.run.ensures.ran;
     }
