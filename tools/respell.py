@@ -65,7 +65,7 @@ def own_names():
                 continue
             if rest.lstrip().startswith("=") and not words:
                 continue
-            is_type = "record" in words or "data" in words or bool(re.search(r"Type\s+\d\s*(where\b.*)?$", rest)) or line.lstrip().startswith("pub") is False and False
+            is_type = "record" in words or "data" in words or bool(re.search(r"Type\s+\d\s*(where\b.*)?$", rest))
             found[name] = found.get(name, False) or is_type
     return found
 
