@@ -35,7 +35,7 @@ fn main() -> ExitCode {
         return ExitCode::from(2);
     };
     if !program::path().exists() {
-        println!("check: {} is not there: run 'rt check rig' first", program::path().display());
+        println!("check: {} is not there: run ./build first", program::path().display());
         println!("0 passed, 1 failed");
         return ExitCode::FAILURE;
     }
