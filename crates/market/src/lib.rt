@@ -36,11 +36,12 @@ pub fn is_better(side: Side, a: u32, b: u32) -> bool
 pub fn is_in_range(n: u32) -> bool
     ensures { result ≡ in_range n }
 {
-    1 <= n && n <= LARGEST
+    (1..=LARGEST).contains(&n)
 }
 
 impl Refusal {
-    // The number under which a refusal is reported.
+    // The number under which a refusal is reported. Hosts know these numbers, so each is written out
+    // and none follows from the order of the variants.
     pub fn number(self) -> u32
         ensures { result ≡ number_of self }
     {
@@ -76,7 +77,8 @@ impl Refusal {
         }
     }
 
-    // The place in the file of what is at fault; 0 for the refusals that have none.
+    // The place in the file of what is at fault; 0 for the refusals that have none. Reading one field
+    // each, the two are plainer apart.
     pub fn place(self) -> u32
         ensures { result ≡ place_of self }
     {

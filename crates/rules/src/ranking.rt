@@ -1,6 +1,6 @@
 // Rankings of Program orders, and the order of a side that stands on one.
 ghost use Rattle.std.specs.Prelude.{◌≡◌, ℕ, Bool};
-ghost use Rattle.rules.specs.Rankings.{Ranking as Figures, Ranks, size_time, time_only, class_of, class_rank, key_of, key_ahead};
+ghost use Rattle.rules.specs.Rankings.{Ranking as Figures, Ranks, size_time, time_only, class_of, key_of, key_ahead};
 ghost use Rattle.std.proofs.Common.{rules};
 ghost use Rattle.rules.specs.Precedences.{keys_total};
 
@@ -51,24 +51,15 @@ impl Ranking for Time {
     }
 }
 
-fn class_of(kind: Kind) -> Class
-    ensures { result ≡ class_of kind }
-{
-    match kind {
-        Kind::Displayed => Class::Displayed,
-        Kind::Olo | Kind::Ilo { .. } => Class::Program,
-        Kind::Dark => Class::Dark,
-    }
-}
+impl From<Kind> for Class {
+    ghost from_gives = { λ kind class. class ≡ class_of kind };
 
-// Where a class stands among the classes at one price.
-fn class_rank(class: Class) -> u32
-    ensures { result ≡ class_rank class }
-{
-    match class {
-        Class::Displayed => 0,
-        Class::Program => 1,
-        Class::Dark => 2,
+    fn from(kind: Kind) -> Class {
+        match kind {
+            Kind::Displayed => Class::Displayed,
+            Kind::Olo | Kind::Ilo { .. } => Class::Program,
+            Kind::Dark => Class::Dark,
+        }
     }
 }
 
@@ -82,7 +73,7 @@ impl Shelved for Order {
     fn key(&self) -> OrderKey {
         OrderKey {
             price: self.price,
-            class: class_of(self.kind),
+            class: Class::from(self.kind),
             size: self.size,
             arrival: self.arrival,
         }
@@ -111,14 +102,12 @@ impl<R: Ranking> Precedence<OrderKey> for Sided<R> {
         if a.price != b.price {
             return is_better(self.side, a.price, b.price);
         }
-        let class = class_rank(a.class);
-        let other = class_rank(b.class);
-        if class != other {
-            return class < other;
+        if a.class != b.class {
+            return a.class < b.class;
         }
-        if class == 1 {
-            return self.ranking.ranks(a.size, a.arrival, b.size, b.arrival);
+        match a.class {
+            Class::Program => self.ranking.ranks(a.size, a.arrival, b.size, b.arrival),
+            Class::Displayed | Class::Dark => a.arrival < b.arrival,
         }
-        a.arrival < b.arrival
     }
 }

@@ -110,7 +110,7 @@ pub struct OrderKey {
 }
 
 // The classes of orders at one price, first to last.
-#[derive(Clone, Copy, PartialEq, Eq, Debug)]
+#[derive(Clone, Copy, PartialEq, Eq, PartialOrd, Ord, Debug)]
 pub enum Class {
     Displayed,
     Program,

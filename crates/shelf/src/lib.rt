@@ -1,6 +1,7 @@
 // One shelf for every kind of thing that stands in an order: a count beside a lent slice of
 // cells. What stands on it is `take used cells`, first to last; the cells behind hold nothing.
 // Readers are handed the standing part of the slice, and only the writers here touch the cells.
+// Count and cells are no struct: the host lends the cells with each call, and the book keeps the count.
 #![tactic(auto)]
 
 ghost use Rattle.std.specs.Prelude.{◌≡◌, ℕ, ◌+◌, ◌-◌, ◌<◌, ◌≤◌, Bool, ◌⊎◌, length, take, drop, None, Ok, Err, nat_eq, slice_set};
@@ -60,12 +61,10 @@ fn place_for<T: Shelved, P: Precedence<T::Key>>(order: &P, standing: &[T], x: &T
     ensures { result ≡ first_at (λ y. P.ahead order.now (T.keyed x.now) (T.keyed y)) standing.now }
 {
     let key = x.key();
-    for i in 0..standing.len() {
-        if order.precedes(&key, &standing[i].key()) {
-            return i;
-        }
-    }
-    standing.len()
+    standing
+        .iter()
+        .position(|y| order.precedes(&key, &y.key()))
+        .unwrap_or(standing.len())
 }
 
 // Makes room at a place and puts a thing there: the things from there on move back by one.
@@ -121,21 +120,16 @@ pub fn replace<T: Copy>(cells: &mut [T], used: usize, at: usize, x: T) -> Result
 pub fn read<T: Copy>(standing: &[T], at: usize) -> Option<T>
     ensures { result ≡ nth at standing.now }
 {
-    if at >= standing.len() {
-        return None;
-    }
-    Some(standing[at])
+    standing.get(at).copied()
 }
 
 // The first thing of a tag, with its place.
 pub fn find<T: Shelved>(standing: &[T], tag: u32) -> Option<Placed<T>>
     ensures { result ≡ first (λ y. nat_eq (T.tagged y) tag) standing.now 0 }
 {
-    for place in 0..standing.len() {
-        let item = standing[place];
-        if item.tag() == tag {
-            return Some(Placed { place, item });
-        }
-    }
-    None
+    let place = standing.iter().position(|y| y.tag() == tag)?;
+    Some(Placed {
+        place,
+        item: standing[place],
+    })
 }

@@ -1,28 +1,22 @@
-use Rattle.std.proofs.Common.{◌≡◌, Bool, true, false, eqb, get_or, sym, ◌∙◌}
-use Rattle.std.proofs.lemmas.Bool.{eq-eqb, ne_eqb}
-use Rattle.shelf.proofs.Searches.{first_more, first_here, first_all}
+use Rattle.std.proofs.Common.{rules, tests, Bool, ◌∙◌, nat_eq}
+use Rattle.std.proofs.lemmas.Iterator.{YieldsList-from_slice}
+use Rattle.std.proofs.lemmas.Iterator.Search.{position_from_yields_List}
+use Rattle.shelf.proofs.Searches.{first_found, first_missed}
 use Rattle.shelf.proofs.find.Goals as goal
 
-pub loop-place-preserved : goal.loop-place-preserved
-loop-place-preserved g c =
-    let p : g.row.T.Denot → Bool = λ y. eqb (g.T.Shelved.tagged y) c.args.tag in
-    let r = c.index-standing-place.result in
-    let e : eqb c.tag.result c.args.tag ≡ false = ne_eqb _ _ c.if-tag.false in
-    let f : p (get_or c.args.standing.now c.loop-place.place r) ≡ false = cc in
-    sym (first_more p c.args.standing.now c.loop-place.place r c.loop-place-test.true f) ∙ c.loop-place.invariant
-
-pub returns-then-tag : goal.returns-then-tag
-returns-then-tag g c =
-    let p : g.row.T.Denot → Bool = λ y. eqb (g.T.Shelved.tagged y) c.args.tag in
-    let r = c.index-standing-place.result in
-    let e : eqb c.tag.result c.args.tag ≡ true = eq-eqb _ _ c.if-tag.true in
-    let f : p (get_or c.args.standing.now c.loop-place.place r) ≡ true = cc in
-    let h = first_here p c.args.standing.now c.loop-place.place r c.loop-place-test.true f in
-    let i = c.index-standing-place.is in
-    let v = c.loop-place.invariant in
-    cc
+pub returns-in_err-place : goal.returns-in_err-place
+returns-in_err-place g c =
+    let p : g.row.T.Denot → Bool = λ y. nat_eq (g.T.Shelved.tagged y) c.args.tag in
+    let xs = c.args.standing.now in
+    let found = position_from_yields_List p _ _ c.position.result c.position.ensures.ran (YieldsList-from_slice xs cc) (λ x b q k. search (rules, tests)) in
+    let m = first_missed p xs c.position.result found c.in_err-place.was in
+    c.from_residual.ensures ∙ m
 
 pub returns : goal.returns
 returns g c =
-    let p : g.row.T.Denot → Bool = λ y. eqb (g.T.Shelved.tagged y) c.args.tag in
-    sym (first_all p c.args.standing.now c.loop-place.place c.loop-place-test.false) ∙ c.loop-place.invariant
+    let p : g.row.T.Denot → Bool = λ y. nat_eq (g.T.Shelved.tagged y) c.args.tag in
+    let xs = c.args.standing.now in
+    let found = position_from_yields_List p _ _ c.position.result c.position.ensures.ran (YieldsList-from_slice xs cc) (λ x b q k. search (rules, tests)) in
+    let i = c.index-standing-place.is in
+    let m = first_found p xs c.position.result c.in_ok-place.place c.index-standing-place.result found c.in_ok-place.was in
+    cc
