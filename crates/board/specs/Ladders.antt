@@ -1,17 +1,18 @@
 -- What stands on a ladder: the order of its levels, the quotation of each market, the best, and what holds of every side.
--- Rests on Quotes, and on the orders and searches of a shelf.
+-- Rests on Quotes and Sides, and on the orders and searches of a shelf.
 use Rattle.std.specs.Prelude.{ℕ, Bool, true, cond, not, ◌&&◌, List, [], ◌∷◌, Some, None, Option, ◌==◌, nat_lt}
 use Rattle.std.specs.List.{list_all, remove}
+use Rattle.std.specs.Option.{option_map}
 use Rattle.market.specs.declared.types.Side.{Side}
-use Rattle.market.specs.declared.types.Side.TheVariants.{Buy, Sell}
 use Rattle.market.specs.Words.{better}
 use Rattle.shelf.specs.Order.{lex}
-use Rattle.shelf.specs.Standing.{first_at}
+use Rattle.shelf.specs.Standing.{first_at, nth}
 use Rattle.board.specs.declared.types.Quote.{Quote}
 use Rattle.board.specs.declared.types.Best.{Best}
 use Rattle.board.specs.declared.types.Level.{Level}
 use Rattle.board.specs.declared.types.Rung.{Rung}
 use Rattle.board.specs.Quotes.{Quotes, market_ok, quote_ok}
+use Rattle.board.specs.Sides.{both_sides}
 
 abbrev pub rung_of : Level → Rung
 rung_of x = record { price = x.quote.price; market = x.market }
@@ -34,22 +35,19 @@ abbrev pub rail_quote : List Level → ℕ → Option Quote
 rail_quote [] m = None
 rail_quote (x ∷ xs) m = cond (of_market m x) (Some x.quote) (rail_quote xs m)
 
+abbrev pub best_of_level : Level → Best
+best_of_level x = record { market = x.market; quote = x.quote }
+
 -- the best of a side stands first
 abbrev pub rail_best : List Level → Option Best
-rail_best [] = None
-rail_best (x ∷ xs) = Some (record { market = x.market; quote = x.quote })
+rail_best xs = option_map best_of_level (nth 0 xs)
 
 -- the levels but the first of a market
 abbrev pub without : ℕ → List Level → List Level
 without m xs = remove xs (first_at (of_market m) xs)
 
--- the quotation of one market set to x
-abbrev pub with_level : (ℕ → Option Quote) → ℕ → Option Quote → ℕ → Option Quote
-with_level f m x n = cond (m == n) x (f n)
-
 abbrev pub ladder_quotes : List Level → List Level → Quotes
-ladder_quotes bids offers Buy = rail_quote bids
-ladder_quotes bids offers Sell = rail_quote offers
+ladder_quotes bids offers = both_sides (rail_quote bids) (rail_quote offers)
 
 -- each level lies in its ranges
 abbrev pub level_ok : Level → Bool

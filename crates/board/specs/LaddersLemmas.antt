@@ -4,12 +4,13 @@ use Rattle.std.specs.Prelude.{◌≡◌, ℕ, zero, suc, ◌<◌, ◌≤◌, tru
 use Rattle.std.proofs.Common.{sym, ap, ◌∙◌, subst, inl, inr, ⊎_elim, arith}
 use Rattle.std.proofs.Math.Path.{fun_ext}
 use Rattle.std.specs.List.{AllByRecursion, list_all, remove}
+use Rattle.std.specs.Option.{option_map}
 use Rattle.std.proofs.ByRecursion.{All-weaker}
 use Rattle.std.proofs.lemmas.Bool.{cases_eq, eq-eqb, ne_eqb, eqb-true, eqb-false, cond-true, cond-false, cond_both, and_parts, and_from, both_ways}
 use Rattle.std.proofs.lemmas.Bool.Decides.{nat_tests}
 use Rattle.market.specs.declared.types.Side.{Side}
 use Rattle.market.specs.declared.types.Side.TheVariants.{Buy, Sell}
-use Rattle.market.specs.Words.{same_side, better}
+use Rattle.market.specs.Words.{better}
 use Rattle.shelf.specs.declared.types.Placed.{Placed}
 use Rattle.shelf.specs.Order.{Total, Sorted, Distinct}
 use Rattle.shelf.specs.Standing.{first, first_at, put_in}
@@ -20,8 +21,9 @@ use Rattle.board.specs.declared.types.Quote.{Quote}
 use Rattle.board.specs.declared.types.Best.{Best}
 use Rattle.board.specs.declared.types.Level.{Level}
 use Rattle.board.specs.declared.types.Rung.{Rung}
-use Rattle.board.specs.Quotes.{Quotes, Lawful, with_quote, best_in, best_upto, market_ok, quote_ok}
-use Rattle.board.specs.Ladders.{rung_of, level_of, over, before, of_market, rail_quote, rail_best, without, with_level, ladder_quotes, level_ok, leads, rail_ok}
+use Rattle.board.specs.Quotes.{Quotes, best_in, best_upto, market_ok, quote_ok}
+use Rattle.board.specs.Sides.{with_level, side_best, LawfulSide}
+use Rattle.board.specs.Ladders.{rung_of, level_of, over, before, of_market, rail_quote, rail_best, without, level_ok, leads, rail_ok}
 use Rattle.board.specs.Bests.{IsBest, best_none, best_some, best_one, not_self}
 
 -- what the test of a side says
@@ -68,13 +70,9 @@ over_total : (s : Side) → Total (λ (k : Rung). k.market) (over s)
 over_total s = lex_total _ (λ (k : Rung). k.price) _ _ (strict_better s) (by_label (λ (k : Rung). k.market) _ strict_up)
 
 -- what a search for a market tells of its quotation
-pub found_quote : (m : ℕ) (xs : List Level) (n : ℕ) (w : Placed Level) → first (of_market m) xs n ≡ Some w → rail_quote xs m ≡ Some w.item.quote
-found_quote m [] n w e = let z : ◌≡◌ {A = ℕ} 0 1 = cc in absurd (omega arith)
-found_quote m (x ∷ xs) n w e = let ih = found_quote m xs (suc n) w in grind (arith, nat_tests)
-
-pub lost_quote : (m : ℕ) (xs : List Level) (n : ℕ) → first (of_market m) xs n ≡ None → rail_quote xs m ≡ None
-lost_quote m [] n e = refl
-lost_quote m (x ∷ xs) n e = let ih = lost_quote m xs (suc n) in grind (arith, nat_tests)
+pub first_quote : (m : ℕ) (xs : List Level) (n : ℕ) → option_map (λ (w : Placed Level). w.item.quote) (first (of_market m) xs n) ≡ rail_quote xs m
+first_quote m [] n = refl
+first_quote m (x ∷ xs) n = let ih = first_quote m xs (suc n) in grind (arith, nat_tests)
 
 pub lost_without : (m : ℕ) (xs : List Level) (n : ℕ) → first (of_market m) xs n ≡ None → xs ≡ without m xs
 lost_without m [] n e = refl
@@ -198,20 +196,7 @@ taken_out m xs ys zs w f e h =
     let k : w.place ≡ first_at (of_market m) ys = let z = p.0 in omega arith in
     h ∙ ap (remove xs) (k ∙ ap (first_at (of_market m)) e)
 
--- the write of one side, as a board has it
-pub set_bids : (bids new offers : List Level) (m : ℕ) (q : Option Quote) → rail_quote new ≡ with_level (rail_quote bids) m q → ladder_quotes new offers ≡ with_quote (ladder_quotes bids offers) Buy m q
-set_bids bids new offers m q e = fun_ext (λ s. fun_ext (λ n. at s n)) where
-  at : (s : Side) (n : ℕ) → ladder_quotes new offers s n ≡ with_quote (ladder_quotes bids offers) Buy m q s n
-  at Buy n = ap (λ f. f n) e
-  at Sell n = refl
-
-pub set_offers : (bids offers new : List Level) (m : ℕ) (q : Option Quote) → rail_quote new ≡ with_level (rail_quote offers) m q → ladder_quotes bids new ≡ with_quote (ladder_quotes bids offers) Sell m q
-set_offers bids offers new m q e = fun_ext (λ s. fun_ext (λ n. at s n)) where
-  at : (s : Side) (n : ℕ) → ladder_quotes bids new s n ≡ with_quote (ladder_quotes bids offers) Sell m q s n
-  at Buy n = refl
-  at Sell n = ap (λ f. f n) e
-
--- a ladder is lawful
+-- a rail is lawful
 rail_ranged : (s : Side) (xs : List Level) → Sound s xs → (m : ℕ) → quote_ok (rail_quote xs m) ≡ true
 rail_ranged s xs k m = at (rail_quote xs m) refl where
   at : (r : Option Quote) → rail_quote xs m ≡ r → quote_ok r ≡ true
@@ -224,21 +209,8 @@ rail_none s xs k m h = at (rail_quote xs m) refl where
   at None e = refl
   at (Some y) e = absurd (both_ways (market_ok m) h (and_parts (market_ok m) (quote_ok (Some y)) (all_quoted (λ x. level_ok x ≡ true) xs m y k.levels e)).0)
 
-pub ladder_lawful : (bids offers : List Level) → Sound Buy bids → Sound Sell offers → Lawful (ladder_quotes bids offers)
-ladder_lawful bids offers kb ko = record { ranged = ranged; none = none } where
-  ranged : (s : Side) (m : ℕ) → quote_ok (ladder_quotes bids offers s m) ≡ true
-  ranged Buy m = rail_ranged Buy bids kb m
-  ranged Sell m = rail_ranged Sell offers ko m
-
-  none : (s : Side) (m : ℕ) → market_ok m ≡ false → ladder_quotes bids offers s m ≡ None
-  none Buy m h = rail_none Buy bids kb m h
-  none Sell m h = rail_none Sell offers ko m h
-
-pub of_side : (s t : Side) (xs : List Level) → same_side s t ≡ true → rail_ok t xs ≡ true → Sound s xs
-of_side Buy Buy xs e h = rail_says Buy xs h
-of_side Buy Sell xs e h = absurd (both_ways false refl e)
-of_side Sell Buy xs e h = absurd (both_ways false refl e)
-of_side Sell Sell xs e h = rail_says Sell xs h
+pub rail_lawful : (s : Side) (xs : List Level) → rail_ok s xs ≡ true → LawfulSide (rail_quote xs)
+rail_lawful s xs h = let k = rail_says s xs h in record { ranged = rail_ranged s xs k; none = rail_none s xs k }
 
 -- the first level is the best
 over_none : (s : Side) (a b m n : ℕ) → over s (record { price = a; market = m }) (record { price = b; market = n }) ≡ true → better s b a ≡ false
@@ -287,7 +259,9 @@ module _ (b : Quotes) (s : Side) (x : Level) (xs : List Level) (e : (m : ℕ) �
         absurd (omega arith)
     at (Some z) g = ap Some (best_one b s n _ z (is_first n h) (best_some b s n z g))
 
-pub first_best : (b : Quotes) (s : Side) (xs : List Level) → ((m : ℕ) → b s m ≡ rail_quote xs m) → Sound s xs → rail_best xs ≡ best_in b s
+pub first_best : (s : Side) (xs : List Level) → rail_ok s xs ≡ true → rail_best xs ≡ side_best s (rail_quote xs)
 unfolding best_in
-first_best b s [] e k = sym (none_upto b s e 16)
-first_best b s (x ∷ xs) e k = first_upto b s x xs e k 16 (let l = k.levels.0 in grind (arith, nat_tests))
+first_best s [] h = sym (none_upto (λ _. rail_quote []) s (λ m. refl) 16)
+first_best s (x ∷ xs) h =
+    let k = rail_says s (x ∷ xs) h in
+    first_upto (λ _. rail_quote (x ∷ xs)) s x xs (λ m. refl) k 16 (let l = k.levels.0 in grind (arith, nat_tests))

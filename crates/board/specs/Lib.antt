@@ -1,4 +1,6 @@
 pub mod Quotes
+pub mod Sides
+pub mod SidesLemmas
 pub mod Plates
 pub mod Ladders
 pub mod LaddersLemmas

@@ -9,6 +9,8 @@ ghost use Rattle.board.specs.Quotes.{Quotes, Lawful, with_quote, post_answer, po
 pub mod ladder;
 pub mod plate;
 pub mod quotes;
+mod side;
+mod two_sided;
 pub mod types;
 
 use market::types::{Refusal, Side};

@@ -1,7 +1,10 @@
+// The types of a board.
+ghost use Rattle.std.specs.Prelude.{◌≡◌};
+
 use market::types::Side;
 
 // A protected quotation of an away market.
-#[derive(Clone, Copy, PartialEq, Eq, Debug)]
+#[derive(Clone, Copy, PartialEq, Eq, Debug, Default)]
 pub struct Quote {
     pub price: u32,
     pub shares: u32,
@@ -15,10 +18,21 @@ pub struct Best {
 }
 
 // A quotation with its market, as it stands on a ladder.
-#[derive(Clone, Copy)]
+#[derive(Clone, Copy, Default)]
 pub struct Level {
     pub market: u32,
     pub quote: Quote,
+}
+
+impl From<Level> for Best {
+    ghost from_gives = { λ l b. b ≡ record { market = l.market; quote = l.quote } };
+
+    fn from(level: Level) -> Best {
+        Best {
+            market: level.market,
+            quote: level.quote,
+        }
+    }
 }
 
 // What decides where a level stands.
