@@ -6,7 +6,3 @@ use Rattle.board.specs.Quotes.{answered}
 pub answered_ok : {A : Type 0} (r : Result Unit Refusal) (a x : A) → Ok x ≡ answered r a → (r ≡ Ok tt) × (x ≡ a)
 answered_ok (Ok tt) a x e = (refl, (cc))
 answered_ok (Err f) a x e = let z : ◌≡◌ {A = ℕ} 0 1 = cc in absurd (omega arith)
-
-pub answered_err : {A : Type 0} (r : Result Unit Refusal) (a : A) (f : Refusal) → Err f ≡ answered r a → r ≡ Err f
-answered_err (Ok tt) a f e = let z : ◌≡◌ {A = ℕ} 0 1 = cc in absurd (omega arith)
-answered_err (Err g) a f e = cc

@@ -1,12 +1,12 @@
 -- What stands on a ladder: the order of its levels, the quotation of each market, the best, and what holds of every side.
 -- Rests on Quotes and Sides, and on the orders and searches of a shelf.
-use Rattle.std.specs.Prelude.{ℕ, Bool, true, cond, not, ◌&&◌, List, [], ◌∷◌, Some, None, Option, ◌==◌, nat_lt}
+use Rattle.std.specs.Prelude.{ℕ, Bool, true, cond, not, ◌&&◌, List, [], ◌∷◌, Some, None, Option, ◌==◌, nat_lt, slice_get}
 use Rattle.std.specs.List.{list_all, remove}
 use Rattle.std.specs.Option.{option_map}
 use Rattle.market.specs.declared.types.Side.{Side}
 use Rattle.market.specs.Words.{better}
 use Rattle.shelf.specs.Order.{lex}
-use Rattle.shelf.specs.Standing.{first_at, nth}
+use Rattle.shelf.specs.Standing.{first_at}
 use Rattle.board.specs.declared.types.Quote.{Quote}
 use Rattle.board.specs.declared.types.Best.{Best}
 use Rattle.board.specs.declared.types.Level.{Level}
@@ -40,7 +40,7 @@ best_of_level x = record { market = x.market; quote = x.quote }
 
 -- the best of a side stands first
 abbrev pub rail_best : List Level → Option Best
-rail_best xs = option_map best_of_level (nth 0 xs)
+rail_best xs = option_map best_of_level (slice_get xs 0)
 
 -- the levels but the first of a market
 abbrev pub without : ℕ → List Level → List Level

@@ -1,5 +1,7 @@
 // The ladder: a board that holds each side's quotations on a shelf, the best first.
-ghost use Rattle.std.specs.Prelude.{◌≡◌, ℕ, ◌≤◌, true, length, take, Some, None};
+ghost use Rattle.std.specs.Prelude.{◌≡◌, ℕ, ◌<◌, ◌≤◌, true, List, [], length, take, Some, None};
+ghost use Rattle.std.specs.List.{remove};
+ghost use Rattle.board.specs.declared.types.Level.{Level};
 ghost use Rattle.shelf.specs.Standing.{put_in};
 ghost use Rattle.board.specs.Quotes.{market_ok, quote_ok};
 ghost use Rattle.board.specs.Ladders.{rung_of, level_of, over, before, rail_quote, without, rail_ok};
@@ -11,7 +13,8 @@ use super::two_sided::TwoSided;
 use super::types::{Best, ByPrice, Level, Quote, Rung};
 use market::is_better;
 use market::types::Side;
-use shelf::{Precedence, Shelved, find, put, read, take_out};
+use shelf::{Precedence, Shelved, find, put, take_out};
+use std::marker::Model;
 
 pub type Ladder = TwoSided<Rail>;
 
@@ -49,64 +52,94 @@ impl Precedence<Rung> for ByPrice {
     }
 }
 
-// One side: its levels stand on a shelf of 16 cells, one for each market at most.
+// Up to 16 levels, one for each market at most. There is no heap, so they stand in a fixed array
+// beside their count.
+#[derive(Drop)]
+struct Levels {
+    cells: [Level; 16],
+    count: usize,
+}
+
+impl Model for Levels {
+    ghost Value = { List Level };
+
+    ghost view = { λ l. take l.count l.cells };
+
+    ghost invariant = { λ l. (length l.cells ≡ 16) × (l.count ≤ 16) };
+}
+
+impl Levels {
+    fn new() -> Levels
+        ensures { result ≡ [] }
+    {
+        Levels {
+            cells: [Level::default(); 16],
+            count: 0,
+        }
+    }
+
+    fn as_slice(&self) -> &[Level]
+        ensures { result.now ≡ self.now }
+    {
+        &self.cells[..self.count]
+    }
+
+    fn put(&mut self, order: &ByPrice, level: Level)
+        requires { length self.old < 16 }
+        ensures { self.new ≡ put_in (before order.now.side) level self.old }
+    {
+        self.count = put(order, &mut self.cells, self.count, level).unwrap();
+    }
+
+    fn take_out(&mut self, place: usize)
+        requires { place < length self.old }
+        ensures { self.new ≡ remove self.old place }
+    {
+        self.count = take_out(&mut self.cells, self.count, place).unwrap();
+    }
+}
+
+// One side: its levels, best first.
 #[derive(Drop)]
 pub struct Rail {
     order: ByPrice,
-    cells: [Level; 16],
-    count: usize,
-    ghost long: { length cells ≡ 16 },
-    ghost within: { count ≤ 16 },
-    ghost sound: { rail_ok order.side (take count cells) ≡ true },
+    levels: Levels,
+    ghost sound: { rail_ok order.side levels ≡ true },
 }
 
 impl Rail {
-    // The levels, best first.
-    fn standing(&self) -> &[Level]
-        ensures { result.now ≡ take self.now.count self.now.cells }
-    {
-        &self.cells[0..self.count]
-    }
-
     // Takes a market's level out, if it has one.
     fn remove(&mut self, market: u32)
-        ensures stands { take self.new.count self.new.cells ≡ without market (take self.old.count self.old.cells) }
+        ensures stands { self.new.levels ≡ without market self.old.levels }
         ensures same { self.new.order ≡ self.old.order }
     {
-        let Some(found) = find(self.standing(), market) else {
-            return;
-        };
-        if let Ok(count) = take_out(&mut self.cells, self.count, found.place) {
-            self.count = count;
+        if let Some(found) = find(self.levels.as_slice(), market) {
+            self.levels.take_out(found.place);
         }
     }
 
     // Puts in the level of a market that has none. There is room, since the other levels are of
     // other markets, and there are 16 markets.
     fn add(&mut self, market: u32, quote: Quote)
-        requires { (market_ok market ≡ true) × ((quote_ok (Some quote) ≡ true) × (rail_quote (take self.old.count self.old.cells) market ≡ None)) }
-        ensures stands { take self.new.count self.new.cells ≡ put_in (before self.old.order.side) (level_of market quote) (take self.old.count self.old.cells) }
+        requires { (market_ok market ≡ true) × ((quote_ok (Some quote) ≡ true) × (rail_quote self.old.levels market ≡ None)) }
+        ensures stands { self.new.levels ≡ put_in (before self.old.order.side) (level_of market quote) self.old.levels }
         ensures same { self.new.order ≡ self.old.order }
     {
-        let level = Level { market, quote };
-        if let Ok(count) = put(&self.order, &mut self.cells, self.count, level) {
-            self.count = count;
-        }
+        self.levels.put(&self.order, Level { market, quote });
     }
 }
 
 impl BoardSide for Rail {
     ghost side_of = { λ r. r.order.side };
 
-    ghost quoted = { λ r. rail_quote (take r.count r.cells) };
+    ghost quoted = { λ r. rail_quote r.levels };
 
-    ghost lawful = { λ r. rail_lawful r.order.side (take r.count r.cells) r.sound };
+    ghost lawful = { λ r. rail_lawful r.order.side r.levels r.sound };
 
     fn new(side: Side) -> Rail {
         Rail {
             order: ByPrice { side },
-            cells: [Level::default(); 16],
-            count: 0,
+            levels: Levels::new(),
         }
     }
 
@@ -118,10 +151,10 @@ impl BoardSide for Rail {
     }
 
     fn best(&self) -> Option<Best> {
-        read(self.standing(), 0).map(Best::from)
+        self.levels.as_slice().first().copied().map(Best::from)
     }
 
     fn look(&self, market: u32) -> Option<Quote> {
-        find(self.standing(), market).map(|found| found.item.quote)
+        find(self.levels.as_slice(), market).map(|found| found.item.quote)
     }
 }

@@ -10,7 +10,7 @@ use market::{is_better, is_in_range};
 pub fn is_market(market: u32) -> bool
     ensures { result ≡ market_ok market }
 {
-    1 <= market && market <= 16
+    (1..=16).contains(&market)
 }
 
 // The quotation that a post sets, or nothing where it removes one.
@@ -33,23 +33,16 @@ pub fn posting(market: u32, price: u32, shares: u32) -> Result<Option<Quote>, Re
 fn shares_of(quote: Option<Quote>) -> u32
     ensures { result ≡ shares_of quote }
 {
-    match quote {
-        Some(q) => q.shares,
-        None => 0,
-    }
+    quote.map_or(0, |q| q.shares)
 }
 
 // What is left of a quotation when shares are taken.
 fn lowered(quote: Option<Quote>, shares: u32) -> Option<Quote>
     ensures { result ≡ lowered quote shares }
 {
-    let quote = quote?;
-    if quote.shares <= shares {
-        return None;
-    }
-    Some(Quote {
-        price: quote.price,
-        shares: quote.shares - shares,
+    quote.filter(|q| q.shares > shares).map(|q| Quote {
+        shares: q.shares - shares,
+        ..q
     })
 }
 
@@ -61,7 +54,7 @@ pub fn taking(market: u32, quote: Option<Quote>, shares: u32) -> Result<Option<Q
     if !is_market(market) {
         return Err(Refusal::MarketNumber);
     }
-    if shares < 1 || shares > shares_of(quote) {
+    if !(1..=shares_of(quote)).contains(&shares) {
         return Err(Refusal::Take);
     }
     Ok(lowered(quote, shares))

@@ -9,5 +9,5 @@ use Rattle.board.proofs.ladder.RailBoardSide.look.Goals as goal
 pub returns : goal.returns
 returns c =
     let e : c.map.result ≡ option_map (λ (w : Placed Level). w.item.quote) c.find.result = search rules in
-    e ∙ ap (option_map (λ (w : Placed Level). w.item.quote)) c.find.ensures ∙ first_quote c.args.market c.standing.result.now 0
-    ∙ ap (λ (xs : List Level). rail_quote xs c.args.market) c.standing.ensures
+    e ∙ ap (option_map (λ (w : Placed Level). w.item.quote)) c.find.ensures ∙ first_quote c.args.market c.as_slice.result.now 0
+    ∙ ap (λ (xs : List Level). rail_quote xs c.args.market) c.as_slice.ensures
