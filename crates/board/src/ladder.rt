@@ -44,11 +44,13 @@ impl Precedence<Rung> for ByPrice {
 
     ghost total = { Prim.search rules };
 
+    // Written out, since the side decides which price stands ahead, and no derive knows of it.
     fn precedes(&self, a: &Rung, b: &Rung) -> bool {
         if a.price == b.price {
-            return a.market < b.market;
+            a.market < b.market
+        } else {
+            is_better(self.side, a.price, b.price)
         }
-        is_better(self.side, a.price, b.price)
     }
 }
 
@@ -150,6 +152,7 @@ impl BoardSide for Rail {
         }
     }
 
+    #[tactic(auto, using(crate::specs::LaddersLemmas::first_best))]
     fn best(&self) -> Option<Best> {
         self.levels.as_slice().first().copied().map(Best::from)
     }

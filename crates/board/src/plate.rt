@@ -45,6 +45,7 @@ impl BoardSide for Table {
 
     ghost lawful = { λ t. table_lawful t.quotes t.long t.sound };
 
+    #[tactic(auto, unfolding(crate::specs::Quotes::best_in))]
     fn new(side: Side) -> Table {
         Table {
             side,
