@@ -123,7 +123,9 @@ impl Rail {
     // Puts in the level of a market that has none. There is room, since the other levels are of
     // other markets, and there are 16 markets.
     fn add(&mut self, market: u32, quote: Quote)
-        requires { (market_ok market ≡ true) × ((quote_ok (Some quote) ≡ true) × (rail_quote self.old.levels market ≡ None)) }
+        requires listed { market_ok market ≡ true }
+        requires ranged { quote_ok (Some quote) ≡ true }
+        requires none { rail_quote self.old.levels market ≡ None }
         ensures stands { self.new.levels ≡ put_in (before self.old.order.side) (level_of market quote) self.old.levels }
         ensures same { self.new.order ≡ self.old.order }
     {

@@ -20,7 +20,8 @@ pub trait BoardSide {
 
     // Sets the quotation of a market.
     fn set(&mut self, market: u32, quote: Option<Quote>)
-        requires { (market_ok market ≡ true) × (quote_ok quote ≡ true) }
+        requires listed { market_ok market ≡ true }
+        requires ranged { quote_ok quote ≡ true }
         ensures quotes { quoted self.new ≡ with_level (quoted self.old) market quote }
         ensures same { side_of self.new ≡ side_of self.old };
 

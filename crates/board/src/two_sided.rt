@@ -23,7 +23,7 @@ pub struct TwoSided<S: BoardSide> {
 impl<S: BoardSide> TwoSided<S> {
     // A board with no quotation.
     pub fn new() -> TwoSided<S>
-        ensures { (s : Side) (m : ℕ) → both_sides (S.quoted result.bids) (S.quoted result.offers) s m ≡ None }
+        ensures { (s : Side) (m : ℕ) → ⟦<Self as Board>⟧.quotes result s m ≡ None }
     {
         TwoSided {
             bids: S::new(Side::Buy),
@@ -31,9 +31,10 @@ impl<S: BoardSide> TwoSided<S> {
         }
     }
 
+    // The bids or the offers.
     fn half(&self, side: Side) -> &S
         ensures side { S.side_of result.now ≡ side }
-        ensures quotes { S.quoted result.now ≡ both_sides (S.quoted self.now.bids) (S.quoted self.now.offers) side }
+        ensures quotes { S.quoted result.now ≡ ⟦<Self as Board>⟧.quotes self.now side }
     {
         match side {
             Side::Buy => &self.bids,
@@ -43,8 +44,9 @@ impl<S: BoardSide> TwoSided<S> {
 
     // Sets the quotation of a side and a market.
     fn set(&mut self, side: Side, market: u32, quote: Option<Quote>)
-        requires { (market_ok market ≡ true) × (quote_ok quote ≡ true) }
-        ensures { both_sides (S.quoted self.new.bids) (S.quoted self.new.offers) ≡ with_quote (both_sides (S.quoted self.old.bids) (S.quoted self.old.offers)) side market quote }
+        requires listed { market_ok market ≡ true }
+        requires ranged { quote_ok quote ≡ true }
+        ensures { ⟦<Self as Board>⟧.quotes self.new ≡ with_quote (⟦<Self as Board>⟧.quotes self.old) side market quote }
     {
         match side {
             Side::Buy => self.bids.set(market, quote),
