@@ -12,7 +12,7 @@ use Rattle.market.specs.Words.{better}
 use Rattle.board.specs.Quotes.{Quotes, better_of, best_upto}
 
 some_none : {A : Type 0} {B : Type 0} (x : A) → Some x ≡ None → B
-some_none x e = let z : ◌≡◌ {A = ℕ} 0 1 = cc in absurd (omega arith)
+some_none x e = absurd (cc)
 
 none_of : (s : Side) (k : ℕ) (r : Option Best) (q : Option Quote) → better_of s r k q ≡ None → (r ≡ None) × (q ≡ None)
 none_of s k None None e = (refl, refl)

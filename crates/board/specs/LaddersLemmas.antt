@@ -23,7 +23,7 @@ use Rattle.board.specs.declared.types.Level.{Level}
 use Rattle.board.specs.declared.types.Rung.{Rung}
 use Rattle.board.specs.Quotes.{Quotes, best_in, best_upto, market_ok, quote_ok}
 use Rattle.board.specs.Sides.{with_level, side_best, LawfulSide}
-use Rattle.board.specs.Ladders.{rung_of, level_of, over, before, of_market, rail_quote, rail_best, without, level_ok, leads, rail_ok}
+use Rattle.board.specs.Ladders.{rung_of, level_of, over, before, of_market, rail_quote, best_of_level, rail_best, without, level_ok, leads, rail_ok}
 use Rattle.board.specs.Bests.{IsBest, best_none, best_some, best_one, not_self}
 
 -- what the test of a side says
@@ -80,7 +80,7 @@ lost_without m (x ∷ xs) n e = let ih = lost_without m xs (suc n) in grind (ari
 
 -- what all levels have, the quotation of each market has
 pub all_quoted : (P : Level → Type 0) (xs : List Level) (m : ℕ) (y : Quote) → AllByRecursion P xs → rail_quote xs m ≡ Some y → P (level_of m y)
-all_quoted P [] m y a e = let z : ◌≡◌ {A = ℕ} 0 1 = cc in absurd (omega arith)
+all_quoted P [] m y a e = absurd (cc)
 all_quoted P (x ∷ xs) m y a e =
     cond_both (of_market m x) (Some x.quote) (rail_quote xs m) (λ r. r ≡ Some y → P (level_of m y))
     (λ t h.
@@ -94,7 +94,7 @@ unquoted : (m : ℕ) (xs : List Level) → rail_quote xs m ≡ None → AllByRec
 unquoted m [] e = tt
 unquoted m (x ∷ xs) e =
     cond_both (of_market m x) (Some x.quote) (rail_quote xs m) (λ r. r ≡ None → AllByRecursion (λ (y : Level). m ≢ y.market) (x ∷ xs))
-    (λ _ h. let z : ◌≡◌ {A = ℕ} 0 1 = cc in absurd (omega arith))
+    (λ _ h. absurd (cc))
     (λ f h. ((λ i. eqb-false _ _ f (sym i)), unquoted m xs h)) e
 
 none_of_market : (m : ℕ) (xs : List Level) → AllByRecursion (λ (y : Level). m ≢ y.market) xs → rail_quote xs m ≡ None
@@ -221,27 +221,30 @@ over_lowest : (s : Side) (a b m n : ℕ) → n < m → over s (record { price = 
 over_lowest Buy a b m n l h = grind (arith, nat_tests)
 over_lowest Sell a b m n l h = grind (arith, nat_tests)
 
-none_upto : (b : Quotes) (s : Side) → ((m : ℕ) → b s m ≡ None) → (n : ℕ) → best_upto b s n ≡ None
-none_upto b s h zero = refl
-none_upto b s h (suc n) = rw (h (suc n)) (none_upto b s h n)
+none_upto : (s : Side) (n : ℕ) → best_upto (λ _. rail_quote []) s n ≡ None
+none_upto s zero = refl
+none_upto s (suc n) = none_upto s n
 
-module _ (b : Quotes) (s : Side) (x : Level) (xs : List Level) (e : (m : ℕ) → b s m ≡ rail_quote (x ∷ xs) m) (k : Sound s (x ∷ xs)) where
-  stands : b s x.market ≡ Some x.quote
-  stands = e x.market ∙ cond-true (of_market x.market x) _ _ (eq-eqb _ _ refl)
+module _ (s : Side) (x : Level) (xs : List Level) (k : Sound s (x ∷ xs)) where
+  abbrev quotes : Quotes
+  quotes _ = rail_quote (x ∷ xs)
+
+  stands : quotes s x.market ≡ Some x.quote
+  stands = cond-true (of_market x.market x) _ _ (eq-eqb _ _ refl)
 
   -- what another market has stands behind
-  behind : (m : ℕ) (y : Quote) → (x.market ≢ m) → b s m ≡ Some y → over s (rung_of x) (record { price = y.price; market = m }) ≡ true
+  behind : (m : ℕ) (y : Quote) → (x.market ≢ m) → quotes s m ≡ Some y → over s (rung_of x) (record { price = y.price; market = m }) ≡ true
   behind m y d f =
-      all_quoted (λ z. before s x z ≡ true) xs m y k.sorted.0 (sym (cond-false (of_market m x) (Some x.quote) (rail_quote xs m) (ne_eqb _ _ d)) ∙ sym (e m) ∙ f)
+      all_quoted (λ z. before s x z ≡ true) xs m y k.sorted.0 (sym (cond-false (of_market m x) (Some x.quote) (rail_quote xs m) (ne_eqb _ _ d)) ∙ f)
 
-  is_first : (n : ℕ) → x.market ≤ n → IsBest b s n (record { market = x.market; quote = x.quote })
+  is_first : (n : ℕ) → x.market ≤ n → IsBest quotes s n (best_of_level x)
   is_first n h = record {
     low = let l = k.levels.0 in grind (arith, nat_tests);
     high = h;
     stands = stands;
     none_better = λ m y _ _ f. ⊎_elim
         (λ (i : x.market ≡ m).
-        let g : ◌≡◌ {A = Option Quote} (Some x.quote) (Some y) = sym stands ∙ ap (b s) i ∙ f in
+        let g : ◌≡◌ {A = Option Quote} (Some x.quote) (Some y) = sym stands ∙ ap (quotes s) i ∙ f in
         let j : x.quote ≡ y = cc in
         ap (λ (v : Quote). better s v.price x.quote.price) (sym j) ∙ not_self s x.quote.price)
         (λ (d : x.market ≡ m → ⊥). over_none s x.quote.price y.price x.market m (behind m y d f))
@@ -249,19 +252,18 @@ module _ (b : Quotes) (s : Side) (x : Level) (xs : List Level) (e : (m : ℕ) �
     lowest = λ m y _ l f. over_lowest s x.quote.price y.price x.market m l (behind m y (λ i. omega arith) f);
   }
 
-  first_upto : (n : ℕ) → x.market ≤ n → rail_best (x ∷ xs) ≡ best_upto b s n
-  first_upto n h = at (best_upto b s n) refl where
-    at : (r : Option Best) → best_upto b s n ≡ r → rail_best (x ∷ xs) ≡ r
+  first_upto : (n : ℕ) → x.market ≤ n → rail_best (x ∷ xs) ≡ best_upto quotes s n
+  first_upto n h = at (best_upto quotes s n) refl where
+    at : (r : Option Best) → best_upto quotes s n ≡ r → rail_best (x ∷ xs) ≡ r
     at None g =
         let l = k.levels.0 in
-        let z : ◌≡◌ {A = Option Quote} (Some x.quote) None = sym stands ∙ best_none b s n g x.market (grind (arith, nat_tests)) h in
-        let w : ◌≡◌ {A = ℕ} 0 1 = cc in
-        absurd (omega arith)
-    at (Some z) g = ap Some (best_one b s n _ z (is_first n h) (best_some b s n z g))
+        let z : ◌≡◌ {A = Option Quote} (Some x.quote) None = sym stands ∙ best_none quotes s n g x.market (grind (arith, nat_tests)) h in
+        absurd (cc)
+    at (Some z) g = ap Some (best_one quotes s n _ z (is_first n h) (best_some quotes s n z g))
 
 pub first_best : (s : Side) (xs : List Level) → rail_ok s xs ≡ true → rail_best xs ≡ side_best s (rail_quote xs)
 unfolding best_in
-first_best s [] h = sym (none_upto (λ _. rail_quote []) s (λ m. refl) 16)
+first_best s [] h = sym (none_upto s 16)
 first_best s (x ∷ xs) h =
     let k = rail_says s (x ∷ xs) h in
-    first_upto (λ _. rail_quote (x ∷ xs)) s x xs (λ m. refl) k 16 (let l = k.levels.0 in grind (arith, nat_tests))
+    first_upto s x xs k 16 (let l = k.levels.0 in grind (arith, nat_tests))
