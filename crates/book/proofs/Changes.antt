@@ -1,6 +1,7 @@
 -- A side with one order taken off or put on, as what it makes of the market. Assumes nothing.
-use Rattle.std.proofs.Common.{◌≡◌, ℕ, ◌≤◌, max, true, false, cond, ◌||◌, eqb, ltb, List, [], Some, None, Err, Option, Result, sym, ap, ◌∙◌, arith}
+use Rattle.std.proofs.Common.{◌≡◌, ℕ, ◌≤◌, max, true, false, cond, ◌||◌, eqb, ltb, List, [], Some, None, Err, Option, Result, sym, refl, ap, ◌∙◌, arith}
 use Rattle.std.specs.List.{remove}
+use Rattle.std.specs.Option.{option_or}
 use Rattle.market.specs.declared.types.Side.{Side}
 use Rattle.market.specs.declared.types.Refusal.{Refusal}
 use Rattle.market.specs.declared.types.Refusal.TheVariants.{NotResting, CutShares}
@@ -20,23 +21,29 @@ pub behind_twice : (xs ys zs : List Order) (a b c : ℕ) → b ≤ a → SameBeh
 behind_twice xs ys zs a b c h e f =
     drop_later zs ys (max b c) (max a c) (omega arith) f ∙ drop_later ys xs (max a b) (max a c) (omega arith) e
 
-module _ (m : Market) (k : ℕ) where
-  pub cancel_none : None ≡ at_rest k m → outcome (Err NotResting) [] m ≡ cancel m k
-  unfolding cancel
-  cancel_none e = ap (λ l. decided (cancel_refusal l) m (cancelled m l)) e
+-- sent back for the cells, or since the order does not rest; f is what the call gives by the order found
+sent_back : (m : Market) (f : Option Located → Outcome) (r : Option Refusal) (l : Option Located) (e : Refusal) → f None ≡ outcome (Err NotResting) [] m → Some e ≡ option_or r (cancel_refusal l) → outcome (Err e) [] m ≡ decided r m (f l)
+sent_back m f None None e h s = let k : e ≡ NotResting = cc in ap (λ x. outcome (Err x) [] m) k ∙ sym h
+sent_back m f None (Some l) e h s = absurd (cc)
+sent_back m f (Some d) l e h s = let k : e ≡ d = cc in ap (λ x. outcome (Err x) [] m) k
 
-  pub cancel_some : (l : Located) → Some l ≡ at_rest k m → cancelled m (Some l) ≡ cancel m k
+module _ (m : Market) (k : ℕ) where
+  pub cancel_back : (r : Option Refusal) (e : Refusal) → Some e ≡ option_or r (cancel_refusal (at_rest k m)) → outcome (Err e) [] m ≡ decided r m (cancel m k)
   unfolding cancel
-  cancel_some l e = ap (λ x. decided (cancel_refusal x) m (cancelled m x)) e
+  cancel_back r e h = sent_back m (λ l. decided (cancel_refusal l) m (cancelled m l)) r (at_rest k m) e refl h
+
+  pub cancel_done : (l : Located) → Some l ≡ at_rest k m → cancelled m (Some l) ≡ cancel m k
+  unfolding cancel
+  cancel_done l e = ap (λ x. decided (cancel_refusal x) m (cancelled m x)) e
 
 module _ (t : Terms) (m : Market) (k n : ℕ) where
   -- a cut by what it found under the arrival
   cut_by : Option Located → Outcome
   cut_by l = decided (cut_refusal l n) m (cut_to t m l n)
 
-  pub cut_none : None ≡ at_rest k m → outcome (Err NotResting) [] m ≡ cut t m k n
+  pub cut_back : (r : Option Refusal) (e : Refusal) → Some e ≡ option_or r (cancel_refusal (at_rest k m)) → outcome (Err e) [] m ≡ decided r m (cut t m k n)
   unfolding cut cut_by
-  cut_none e = ap cut_by e
+  cut_back r e h = sent_back m cut_by r (at_rest k m) e refl h
 
   pub cut_refused : (l : Located) → Some l ≡ at_rest k m → (eqb n 0 || ltb l.order.«open» n) ≡ true → outcome (Err CutShares) [] m ≡ cut t m k n
   unfolding cut cut_by

@@ -1,17 +1,16 @@
 -- An entry, refused and accepted, by what the code found and left. Assumes nothing.
-use Rattle.std.proofs.Common.{◌≡◌, ℕ, ◌+◌, ◌≤◌, true, cond, List, [], length, take, Some, None, Ok, Err, sym, ap, ◌∙◌}
+use Rattle.std.proofs.Common.{◌≡◌, ℕ, ◌+◌, ◌≤◌, List, [], length, take, Some, None, Ok, Err, sym, refl, ap, ◌∙◌}
 use Rattle.std.proofs.lemmas.List.{length-take-le}
 use Rattle.market.specs.declared.types.Side.{Side}
 use Rattle.market.specs.declared.types.Side.TheVariants.{Buy, Sell}
 use Rattle.market.specs.declared.types.Refusal.{Refusal}
-use Rattle.market.specs.declared.types.Refusal.TheVariants.{SideCells}
 use Rattle.market.specs.Words.{opposite}
 use Rattle.board.specs.Quotes.{Quotes}
 use Rattle.rules.specs.declared.types.Kind.{Kind}
 use Rattle.rules.specs.declared.types.Order.{Order}
 use Rattle.rules.specs.declared.types.Row.{Row}
 use Rattle.rules.specs.Sweeps.{Swept, standing, swept, with_open, measured_sweep}
-use Rattle.rules.specs.Calls.{Market, Terms, Outcome, market, of_side, by_sides, outcome, arriving, enter_refusal, cells_ok, cells_refusal, decided, settled, entered, own_after, enter}
+use Rattle.rules.specs.Calls.{Market, Terms, Outcome, market, of_side, by_sides, outcome, arriving, enter_refusal, cells_refusal, decided, settled, entered, own_after, enter}
 use Rattle.book.specs.Counts.{count_of}
 
 -- what stands of a side is as long as its count
@@ -20,8 +19,8 @@ own_count Buy b o n bids offers q h k = length-take-le b bids h
 own_count Sell b o n bids offers q h k = length-take-le o offers k
 
 -- with 128 cells on each side a call is decided by its own cases
-pub cells_pass : (a b : ℕ) (m : Market) (o : Outcome) → true ≡ cells_ok a b → o ≡ decided (cells_refusal a b) m o
-cells_pass a b m o e = ap (λ t. decided (cond t None (Some SideCells)) m o) e
+pub cells_pass : (a b : ℕ) (m : Market) (o : Outcome) → a ≡ 128 → b ≡ 128 → o ≡ decided (cells_refusal a b) m o
+cells_pass a b m o e f = rw (e, f) refl
 
 module _ (t : Terms) (m : Market) (side : Side) (price : ℕ) (kind : Kind) (shares room : ℕ) where
   abbrev i : Order

@@ -1,4 +1,5 @@
 mod Loops
+mod Searches
 mod Steps
 mod Entries
 mod Changes

@@ -1,5 +1,7 @@
 -- What is left of a side decides: one turn of each loop over orders or markets, and its end. Assumes nothing.
-use Rattle.std.proofs.Common.{◌≡◌, ℕ, ◌+◌, ◌<◌, ◌≤◌, true, false, ◌&&◌, ◌||◌, List, [], ◌∷◌, ◌++◌, map, length, get_or, take, drop, set, Option, sym, refl, ap, ◌∙◌, append_assoc, add-one, arith}
+use Rattle.std.proofs.Common.{◌≡◌, ℕ, suc, ◌+◌, ◌-◌, ◌<◌, ◌≤◌, ◌&&◌, ◌||◌, List, [], ◌∷◌, ◌++◌, map, length, get_or, take, drop, set, Option, sym, refl, ap, ◌∙◌, append_assoc, arith}
+use Rattle.std.specs.List.{list_all, list_any}
+use Rattle.std.proofs.lemmas.List.Recursion.{same_from_clauses}
 use Rattle.std.proofs.lemmas.List.{drop_more, drop_all, take_more, take_more_set, map-append}
 use Rattle.market.specs.declared.types.Side.{Side}
 use Rattle.market.specs.Words.{opposite}
@@ -11,17 +13,12 @@ use Rattle.rules.specs.Orders.{program}
 use Rattle.rules.specs.Calls.{any_program, standing_row}
 use Rattle.rules.specs.Trading.{Bests, all_worse, worse_than, worth, resting_volume, quote_worth, away_upto}
 
-worse_is : (p : ℕ) (xs : List Order) (i : ℕ) (d : Order) → i < length xs → all_worse p (drop i xs) ≡ (worse_than p (get_or xs i d) && all_worse p (drop (i + 1) xs))
-worse_is p xs i d h = ap (all_worse p) (drop_more xs i d h)
+-- what the library's tests over a whole list say
+pub worse_than_all : (p : ℕ) (xs : List Order) → all_worse p xs ≡ list_all (worse_than p) xs
+worse_than_all p = same_from_clauses (all_worse p) (list_all (worse_than p)) (λ o b. worse_than p o && b) refl (λ _ _. refl) (λ _ _. refl)
 
-pub worse_more : (p : ℕ) (xs : List Order) (i : ℕ) (d : Order) → i < length xs → worse_than p (get_or xs i d) ≡ true → all_worse p (drop i xs) ≡ all_worse p (drop (i + 1) xs)
-worse_more p xs i d h e = worse_is p xs i d h ∙ ap (λ b. b && all_worse p (drop (i + 1) xs)) e
-
-pub worse_stop : (p : ℕ) (xs : List Order) (i : ℕ) (d : Order) → i < length xs → worse_than p (get_or xs i d) ≡ false → all_worse p (drop i xs) ≡ false
-worse_stop p xs i d h e = worse_is p xs i d h ∙ ap (λ b. b && all_worse p (drop (i + 1) xs)) e
-
-pub worse_all : (p : ℕ) (xs : List Order) (i : ℕ) → length xs ≤ i → all_worse p (drop i xs) ≡ true
-worse_all p xs i h = ap (all_worse p) (drop_all i xs h)
+pub program_in_any : (xs : List Order) → any_program xs ≡ list_any (λ o. program o.kind) xs
+program_in_any = same_from_clauses any_program (list_any (λ o. program o.kind)) (λ o b. program o.kind || b) refl (λ _ _. refl) (λ _ _. refl)
 
 -- n is what the code added; its equation tells the default d
 pub volume_more : (i : Order) (x : Bests) (xs : List Order) (k : ℕ) (d : Order) (s n w : ℕ) → k < length xs → n ≡ worth i x (get_or xs k d) → s + resting_volume i x (drop k xs) ≡ w → (s + n) + resting_volume i x (drop (k + 1) xs) ≡ w
@@ -32,24 +29,16 @@ volume_more i x xs k d s n w h e inv =
 pub volume_all : (i : Order) (x : Bests) (xs : List Order) (k : ℕ) → length xs ≤ k → resting_volume i x (drop k xs) ≡ 0
 volume_all i x xs k h = ap (resting_volume i x) (drop_all k xs h)
 
--- the shares of one market more
-pub away_more : (i : Order) (b : Quotes) (k s n : ℕ) (q : Option Quote) → q ≡ b (opposite i.side) (k + 1) → n ≡ quote_worth i q → s ≡ away_upto i b k → s + n ≡ away_upto i b (k + 1)
-away_more i b k s n q e f h =
-    let a : away_upto i b (k + 1) ≡ away_upto i b k + quote_worth i (b (opposite i.side) (k + 1)) = rw add-one refl in
-    let g : quote_worth i q ≡ quote_worth i (b (opposite i.side) (k + 1)) = ap (quote_worth i) e in
-    omega arith
-
-program_is : (xs : List Order) (i : ℕ) (d : Order) → i < length xs → any_program (drop i xs) ≡ (program (get_or xs i d).kind || any_program (drop (i + 1) xs))
-program_is xs i d h = ap any_program (drop_more xs i d h)
-
-pub program_more : (xs : List Order) (i : ℕ) (d : Order) → i < length xs → program (get_or xs i d).kind ≡ false → any_program (drop i xs) ≡ any_program (drop (i + 1) xs)
-program_more xs i d h e = program_is xs i d h ∙ ap (λ b. b || any_program (drop (i + 1) xs)) e
-
-pub program_stop : (xs : List Order) (i : ℕ) (d : Order) → i < length xs → program (get_or xs i d).kind ≡ true → any_program (drop i xs) ≡ true
-program_stop xs i d h e = program_is xs i d h ∙ ap (λ b. b || any_program (drop (i + 1) xs)) e
-
-pub program_all : (xs : List Order) (i : ℕ) → length xs ≤ i → any_program (drop i xs) ≡ false
-program_all xs i h = ap any_program (drop_all i xs h)
+-- the shares of one market more, m
+pub away_more : (i : Order) (b : Quotes) (k m s n : ℕ) (q : Option Quote) → m ≡ suc k → q ≡ b (opposite i.side) m → n ≡ quote_worth i q → s ≡ away_upto i b (m - 1) → s + n ≡ away_upto i b ((m + 1) - 1)
+away_more i b k m s n q c e f h =
+    let one : m - 1 ≡ k = omega arith in
+    let next : (m + 1) - 1 ≡ suc k = omega arith in
+    let a : away_upto i b (suc k) ≡ away_upto i b k + quote_worth i (b (opposite i.side) (suc k)) = refl in
+    let g : quote_worth i q ≡ quote_worth i (b (opposite i.side) (suc k)) = ap (quote_worth i) (e ∙ ap (b (opposite i.side)) c) in
+    let h' : s ≡ away_upto i b k = h ∙ ap (away_upto i b) one in
+    let r : s + n ≡ away_upto i b (suc k) = omega arith in
+    r ∙ sym (ap (away_upto i b) next)
 
 -- one more row of a list that is written from a place on
 pub rows_more : (side : Side) (xs : List Order) (old rows : List Standing) (at i : ℕ) (d : Order) (x : Standing) → x ≡ standing_row side (get_or xs i d) → i < length xs → at + i < length rows → take (at + i) rows ≡ take at old ++ map (standing_row side) (take i xs) → take (at + (i + 1)) (set rows (at + i) x) ≡ take at old ++ map (standing_row side) (take (i + 1) xs)

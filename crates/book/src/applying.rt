@@ -6,7 +6,7 @@ ghost use Rattle.book.specs.Held.{held, CellsKept};
 ghost use Rattle.book.specs.Tapes.{GoesOnFairly};
 
 use super::book::Book;
-use super::entering::has_cells;
+use super::resting::check_cells;
 use board::Board;
 use market::types::{Refusal, Side};
 use rules::ranking::Ranking;
@@ -27,18 +27,14 @@ impl<R: Ranking + Copy> Book<R> {
         ensures outcome { outcome result [] (held self.now bids.now offers.now (B.quotes board.new)) ≡ decided (cells_refusal (length bids.now) (length offers.now)) (held self.now bids.now offers.now (B.quotes board.old)) (post (held self.now bids.now offers.now (B.quotes board.old)) market side price shares) }
         ensures rows { (report : List Row) → (rows_in result report ≡ []) × RowsKept result report report }
     {
-        if !has_cells(bids, offers) {
-            return Err(Refusal::SideCells);
-        }
-        match board.post(market, side, price, shares) {
-            Ok(()) => Ok(Accepted {
-                arrival: 0,
-                open: 0,
-                cancelled: 0,
-                rows: 0,
-            }),
-            Err(refusal) => Err(refusal),
-        }
+        check_cells(bids, offers)?;
+        board.post(market, side, price, shares)?;
+        Ok(Accepted {
+            arrival: 0,
+            open: 0,
+            cancelled: 0,
+            rows: 0,
+        })
     }
 
     // Makes the call, of whichever kind it is.

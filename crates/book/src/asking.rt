@@ -6,10 +6,9 @@ ghost use Rattle.rules.specs.Calls.{cells_refusal, list_refusal, open_of, open_s
 ghost use Rattle.book.specs.Held.{held, asked_for};
 
 use super::book::Book;
-use super::changing::locate;
-use super::entering::has_cells;
 use super::kinds::is_program;
 use super::limits::LIST_ROWS;
+use super::resting::locate;
 use market::types::{Refusal, Side};
 use rules::ranking::Ranking;
 use rules::types::{Order, Standing};
@@ -17,12 +16,7 @@ use rules::types::{Order, Standing};
 fn has_program(orders: &[Order]) -> bool
     ensures { result ≡ any_program orders.now }
 {
-    for order in orders {
-        if is_program(order.kind) {
-            return true;
-        }
-    }
-    false
+    orders.iter().any(|order| is_program(order.kind))
 }
 
 fn standing_row(side: Side, order: &Order) -> Standing
@@ -43,8 +37,8 @@ fn write_side(side: Side, orders: &[Order], rows: &mut [Standing], at: usize) ->
     ensures rows { take result rows.new ≡ take at rows.old ++ map (standing_row side) orders.now }
     ensures behind { drop result rows.new ≡ drop result rows.old }
 {
-    for i in 0..orders.len() {
-        rows[at + i] = standing_row(side, &orders[i]);
+    for (i, order) in orders.iter().enumerate() {
+        rows[at + i] = standing_row(side, order);
     }
     at + orders.len()
 }
@@ -54,23 +48,16 @@ impl<R: Ranking + Copy> Book<R> {
     pub fn open(&self, arrival: u32, bids: &[Order], offers: &[Order]) -> Result<u32, Refusal>
         ensures { (b : Quotes) → result ≡ asked_for (cells_refusal (length bids.now) (length offers.now)) (open_shares (held self.now bids.now offers.now b) arrival) }
     {
-        if !has_cells(bids, offers) {
-            return Err(Refusal::SideCells);
-        }
-        match locate(arrival, &bids[0..self.bids], &offers[0..self.offers]) {
-            Some(at) => Ok(at.order.open),
-            None => Ok(0),
-        }
+        let (bids, offers) = self.resting(bids, offers)?;
+        Ok(locate(arrival, bids, offers).map_or(0, |at| at.order.open))
     }
 
     // Whether the Liquidity Identifier is lit: a Program order rests.
     pub fn light(&self, bids: &[Order], offers: &[Order]) -> Result<bool, Refusal>
         ensures { (b : Quotes) → result ≡ asked_for (cells_refusal (length bids.now) (length offers.now)) (lit (held self.now bids.now offers.now b)) }
     {
-        if !has_cells(bids, offers) {
-            return Err(Refusal::SideCells);
-        }
-        Ok(has_program(&bids[0..self.bids]) || has_program(&offers[0..self.offers]))
+        let (bids, offers) = self.resting(bids, offers)?;
+        Ok(has_program(bids) || has_program(offers))
     }
 
     // Writes each resting order once, and answers their count. In which order they stand in the
@@ -83,13 +70,11 @@ impl<R: Ranking + Copy> Book<R> {
     ) -> Result<usize, Refusal>
         ensures { (b : Quotes) → elim result [ Ok n ↦ (n ≡ length (standing_rows (held self.now bids.now offers.now b))) × IsPermutation (standing_rows (held self.now bids.now offers.now b)) (take n rows.new) × (drop n rows.new ≡ drop n rows.old) × (list_refusal (length bids.now) (length offers.now) (length rows.old) ≡ None) | Err e ↦ (list_refusal (length bids.now) (length offers.now) (length rows.old) ≡ Some e) × (rows.new ≡ rows.old) ] }
     {
-        if !has_cells(bids, offers) {
-            return Err(Refusal::SideCells);
-        }
+        let (bids, offers) = self.resting(bids, offers)?;
         if rows.len() < LIST_ROWS {
             return Err(Refusal::ShortReport);
         }
-        let count = write_side(Side::Buy, &bids[0..self.bids], rows, 0);
-        Ok(write_side(Side::Sell, &offers[0..self.offers], rows, count))
+        let count = write_side(Side::Buy, bids, rows, 0);
+        Ok(write_side(Side::Sell, offers, rows, count))
     }
 }

@@ -2,39 +2,16 @@
 ghost use Rattle.std.specs.Prelude.{◌≡◌, ℕ, ◌<◌, ◌≤◌, List, [], length, IfSome};
 ghost use Rattle.board.specs.Quotes.{Quotes};
 ghost use Rattle.rules.specs.declared.types.Row.{Row};
-ghost use Rattle.rules.specs.Calls.{located, leaves, cut_down, taken_off, put_on, cells_refusal, decided, outcome, terms, cancel, cut, rows_in, RowsKept};
+ghost use Rattle.rules.specs.Calls.{leaves, cut_down, taken_off, put_on, cells_refusal, decided, outcome, terms, cancel, cut, rows_in, RowsKept};
 ghost use Rattle.book.specs.Counts.{count_of, side_of};
 ghost use Rattle.book.specs.Held.{held, CellsKept, SameBehind};
 
 use super::book::Book;
-use super::entering::has_cells;
 use super::kinds::is_too_small;
 use market::types::{Refusal, Side};
 use rules::ranking::{Ranking, Sided};
 use rules::types::{Accepted, Located, Order};
-use shelf::{find, put, take_out};
-
-// The resting order of an arrival, with its side and its place there.
-pub(crate) fn locate(arrival: u32, bids: &[Order], offers: &[Order]) -> Option<Located>
-    ensures value { result ≡ located arrival bids.now offers.now }
-    ensures within { IfSome result (λ l. l.place < length (side_of l.side bids.now offers.now)) }
-{
-    if let Some(c) = find(bids, arrival) {
-        return Some(Located {
-            side: Side::Buy,
-            place: c.place,
-            order: c.item,
-        });
-    }
-    let Some(c) = find(offers, arrival) else {
-        return None;
-    };
-    Some(Located {
-        side: Side::Sell,
-        place: c.place,
-        order: c.item,
-    })
-}
+use shelf::{put, take_out};
 
 // Whether a cut takes the order off: nothing stays open, or its ranking size falls below the least.
 fn leaves(order: &Order, shares: u32) -> bool
@@ -128,12 +105,7 @@ impl<R: Ranking + Copy> Book<R> {
         ensures cells { CellsKept result self.old self.new bids.old bids.new offers.old offers.new }
         ensures rows { (report : List Row) → (rows_in result report ≡ []) × RowsKept result report report }
     {
-        if !has_cells(bids, offers) {
-            return Err(Refusal::SideCells);
-        }
-        let Some(at) = locate(arrival, &bids[0..self.bids], &offers[0..self.offers]) else {
-            return Err(Refusal::NotResting);
-        };
+        let at = self.at_rest(arrival, bids, offers)?;
         self.take_off(&at, bids, offers);
         Ok(gone(&at.order))
     }
@@ -151,12 +123,7 @@ impl<R: Ranking + Copy> Book<R> {
         ensures cells { CellsKept result self.old self.new bids.old bids.new offers.old offers.new }
         ensures rows { (report : List Row) → (rows_in result report ≡ []) × RowsKept result report report }
     {
-        if !has_cells(bids, offers) {
-            return Err(Refusal::SideCells);
-        }
-        let Some(at) = locate(arrival, &bids[0..self.bids], &offers[0..self.offers]) else {
-            return Err(Refusal::NotResting);
-        };
+        let at = self.at_rest(arrival, bids, offers)?;
         if shares == 0 || shares > at.order.open {
             return Err(Refusal::CutShares);
         }

@@ -45,20 +45,14 @@ fn reaches_mtv(incoming: &Order, resting: &Order) -> bool
 fn floor(best_bid: Option<Best>) -> u32
     ensures { (p : ℕ) → nat_le result p ≡ no_better best_bid Buy p }
 {
-    match best_bid {
-        Some(best) => best.quote.price,
-        None => 0,
-    }
+    best_bid.map_or(0, |best| best.quote.price)
 }
 
 // The highest price that no better offer bars.
 fn ceiling(best_offer: Option<Best>) -> u32
     ensures { (p : ℕ) → p < 2 ^ 32 → nat_le p result ≡ no_better best_offer Sell p }
 {
-    match best_offer {
-        Some(best) => best.quote.price,
-        None => u32::MAX,
-    }
+    best_offer.map_or(u32::MAX, |best| best.quote.price)
 }
 
 // The quotation of the other side that may bar an entry: a Type 2 routes to those and is not barred.
@@ -93,7 +87,7 @@ fn is_between(prices: &Prices, price: u32) -> bool
     ensures value { result ≡ between prices.now price }
     ensures fits { price < 2 ^ 32 }
 {
-    prices.low <= price && price <= prices.high
+    (prices.low..=prices.high).contains(&price)
 }
 
 // A displayed order is worse than a price for its side; other orders do not count.
@@ -106,12 +100,7 @@ fn is_worse(price: u32, order: &Order) -> bool
 fn all_worse(price: u32, orders: &[Order]) -> bool
     ensures { result ≡ all_worse price orders.now }
 {
-    for order in orders {
-        if !is_worse(price, order) {
-            return false;
-        }
-    }
-    true
+    orders.iter().all(|order| is_worse(price, order))
 }
 
 // Fifth condition: two Program orders trade at a better price than every displayed order has.
@@ -132,6 +121,7 @@ fn passes_four(incoming: &Order, prices: &Prices, resting: &Order) -> bool
         && reaches_mtv(incoming, resting)
 }
 
+#[tactic(auto, unfolding(crate::specs::Prices::passes_between))]
 fn may_trade(
     incoming: &Order,
     prices: &Prices,
@@ -156,16 +146,17 @@ pub fn choose(
     ensures within { IfSome result (λ c. c.place < length opp.now) }
 {
     let prices = prices(incoming, bests);
-    for place in 0..opp.len() {
-        let item = &opp[place];
-        if may_trade(incoming, &prices, own, opp, item) {
-            return Some(Placed { place, item: *item });
-        }
-    }
-    None
+    let place = opp
+        .iter()
+        .position(|order| may_trade(incoming, &prices, own, opp, order))?;
+    Some(Placed {
+        place,
+        item: opp[place],
+    })
 }
 
 // The shares that a resting order adds to the volume.
+#[tactic(auto, unfolding(crate::specs::Prices::worth_between))]
 fn worth(incoming: &Order, prices: &Prices, resting: &Order) -> u32
     ensures value { result ≡ worth_between prices.now incoming.now resting.now }
     ensures fits { resting.now.price < 2 ^ 32 }
@@ -211,8 +202,8 @@ fn away_volume<B: Board>(incoming: &Order, board: &B) -> u64
         return 0;
     }
     let mut sum = 0u64;
-    for i in 0..16u32 {
-        let quote = board.look(i + 1, other(incoming.side));
+    for market in 1..=16 {
+        let quote = board.look(market, other(incoming.side));
         sum += u64::from(quote_worth(incoming, quote));
     }
     sum

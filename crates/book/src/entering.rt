@@ -1,5 +1,6 @@
 // An entry: sent back, or swept against the other side, and its residue rested or cancelled.
-ghost use Rattle.std.specs.Prelude.{◌≡◌, ℕ, ◌+◌, ◌<◌, ◌≤◌, true, false, length, take, drop, IfNone, Some, Ok, Err};
+ghost use Rattle.std.specs.Prelude.{◌≡◌, ℕ, ◌+◌, ◌<◌, ◌≤◌, true, false, length, take, drop, Some, Ok, Err, OnOk};
+ghost use Rattle.std.specs.Result.{result_err};
 ghost use Rattle.board.specs.Quotes.{Quotes};
 ghost use Rattle.rules.specs.Orders.{cancels};
 ghost use Rattle.rules.specs.Sweeps.{standing, swept, with_open, measured_sweep};
@@ -10,6 +11,7 @@ ghost use Rattle.book.specs.Held.{held, CellsKept};
 use super::book::Book;
 use super::kinds::{is_cancelled, is_ilo, is_olo, is_too_small, mtv_of};
 use super::limits::{CELLS, MOST_ENTRIES, REPORT_ROWS};
+use super::resting::check_cells;
 use super::sweeping::{measured_sweep, with_open};
 use board::Board;
 use market::is_in_range;
@@ -18,45 +20,39 @@ use rules::ranking::{Ranking, Sided};
 use rules::types::{Accepted, Kind, Order, Row};
 use shelf::{empty, put};
 
-// Whether both sides handed in have their 128 cells.
-pub(crate) fn has_cells(bids: &[Order], offers: &[Order]) -> bool
-    ensures { result ≡ cells_ok (length bids.now) (length offers.now) }
-{
-    bids.len() == CELLS && offers.len() == CELLS
-}
-
-// The first case, in the order of the checks, that sends an entry back.
-fn refused(incoming: &Order, arrivals: u32, count: usize, room: usize) -> Option<Refusal>
-    ensures value { result ≡ enter_refusal incoming.now arrivals count room }
-    ensures passes { IfNone result ((144 ≤ room) × (arrivals < 1000000) × (cancels incoming.now.kind ≡ false → count < 128)) }
+// Sends an entry back by the first case, in the order of the checks, that holds of it.
+#[tactic(auto, unfolding(rules::specs::Calls::enter_refusal))]
+fn check_entry(incoming: &Order, arrivals: u32, count: usize, room: usize) -> Result<(), Refusal>
+    ensures value { result_err result ≡ enter_refusal incoming.now arrivals count room }
+    ensures passes { OnOk result ((144 ≤ room) × (arrivals < 1000000) × (cancels incoming.now.kind ≡ false → count < 128)) }
 {
     let kind = incoming.kind;
     if room < REPORT_ROWS {
-        return Some(Refusal::ShortReport);
+        return Err(Refusal::ShortReport);
     }
     if !is_in_range(incoming.price) {
-        return Some(Refusal::Price);
+        return Err(Refusal::Price);
     }
     if !is_in_range(incoming.size) {
-        return Some(Refusal::Shares);
+        return Err(Refusal::Shares);
     }
     let small = is_too_small(kind, incoming.price, incoming.size);
     if is_olo(kind) && small {
-        return Some(Refusal::SmallOlo);
+        return Err(Refusal::SmallOlo);
     }
     if is_ilo(kind) && small {
-        return Some(Refusal::SmallIlo);
+        return Err(Refusal::SmallIlo);
     }
     if incoming.size < mtv_of(kind) {
-        return Some(Refusal::LargeMtv);
+        return Err(Refusal::LargeMtv);
     }
     if arrivals >= MOST_ENTRIES {
-        return Some(Refusal::ArrivalsSpent);
+        return Err(Refusal::ArrivalsSpent);
     }
     if !is_cancelled(kind) && count >= CELLS {
-        return Some(Refusal::SideFull);
+        return Err(Refusal::SideFull);
     }
-    None
+    Ok(())
 }
 
 // Rests the residue, or leaves the side as it is. Answers the side's count.
@@ -73,10 +69,7 @@ fn settle<R: Ranking + Copy>(ranking: R, left: &Order, own: &mut [Order], count:
         side: left.side,
         ranking,
     };
-    match put(&order, own, count, *left) {
-        Ok(more) => more,
-        Err(_) => count,
-    }
+    put(&order, own, count, *left).unwrap_or(count)
 }
 
 // What a sweep and its residue left: the entry's open shares, both counts, and the count of rows.
@@ -137,9 +130,7 @@ impl<R: Ranking + Copy> Book<R> {
     pub fn make(ranking: R, bids: &[Order], offers: &[Order]) -> Result<Book<R>, Refusal>
         ensures { elim result [ Ok k ↦ (cells_ok (length bids.now) (length offers.now) ≡ true) × (k.ranking ≡ ranking) × ((b : Quotes) → held k bids.now offers.now b ≡ fresh b) | Err e ↦ Some e ≡ cells_refusal (length bids.now) (length offers.now) ] }
     {
-        if !has_cells(bids, offers) {
-            return Err(Refusal::SideCells);
-        }
+        check_cells(bids, offers)?;
         Ok(Book {
             ranking,
             bids: empty(bids),
@@ -185,9 +176,7 @@ impl<R: Ranking + Copy> Book<R> {
         ensures cells { CellsKept result self.old self.new bids.old bids.new offers.old offers.new }
         ensures rows { RowsKept result report.old report.new }
     {
-        if !has_cells(bids, offers) {
-            return Err(Refusal::SideCells);
-        }
+        check_cells(bids, offers)?;
         let incoming = Order {
             arrival: self.arrivals + 1,
             side,
@@ -196,9 +185,7 @@ impl<R: Ranking + Copy> Book<R> {
             size: shares,
             open: shares,
         };
-        if let Some(refusal) = refused(&incoming, self.arrivals, self.count(side), report.len()) {
-            return Err(refusal);
-        }
+        check_entry(&incoming, self.arrivals, self.count(side), report.len())?;
         match side {
             Side::Buy => {
                 let t = trade(

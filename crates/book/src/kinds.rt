@@ -17,59 +17,50 @@ pub fn mtv_of(kind: Kind) -> u32
 pub fn is_displayed(kind: Kind) -> bool
     ensures { result ≡ displayed kind }
 {
-    match kind {
-        Kind::Displayed => true,
-        _ => false,
-    }
+    matches!(kind, Kind::Displayed)
 }
 
 pub fn is_olo(kind: Kind) -> bool
     ensures { result ≡ is_olo kind }
 {
-    match kind {
-        Kind::Olo => true,
-        _ => false,
-    }
+    matches!(kind, Kind::Olo)
 }
 
 pub fn is_ilo(kind: Kind) -> bool
     ensures { result ≡ is_ilo kind }
 {
-    match kind {
-        Kind::Ilo { .. } => true,
-        _ => false,
-    }
+    matches!(kind, Kind::Ilo { .. })
 }
 
 pub fn is_program(kind: Kind) -> bool
     ensures { result ≡ program kind }
 {
-    is_olo(kind) || is_ilo(kind)
+    matches!(kind, Kind::Olo | Kind::Ilo { .. })
 }
 
 pub fn is_type2(kind: Kind) -> bool
     ensures { result ≡ type2 kind }
 {
-    match kind {
+    matches!(
+        kind,
         Kind::Ilo {
             routing: Routing::Type2,
             ..
-        } => true,
-        _ => false,
-    }
+        }
+    )
 }
 
 // Whether the residue is cancelled, and does not rest.
 pub fn is_cancelled(kind: Kind) -> bool
     ensures { result ≡ cancels kind }
 {
-    match kind {
+    matches!(
+        kind,
         Kind::Ilo {
             mark: Mark::Cancel,
             ..
-        } => true,
-        _ => false,
-    }
+        }
+    )
 }
 
 // Which kinds meet, displayed, dark, OLO and ILO: a row for each kind of the incoming order, and in

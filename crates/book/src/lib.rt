@@ -9,5 +9,6 @@ mod eligible;
 mod entering;
 mod kinds;
 pub mod limits;
+mod resting;
 mod sweeping;
 mod types;

@@ -1,14 +1,11 @@
-use Rattle.std.proofs.Common.{sym, ◌∙◌}
-use Rattle.book.proofs.Loops.{program_more, program_stop, program_all}
+use Rattle.std.proofs.Common.{sym, ◌∙◌, rules}
+use Rattle.std.proofs.lemmas.Iterator.{YieldsList-from_slice}
+use Rattle.std.proofs.lemmas.Iterator.Search.{any_from_yields_List}
+use Rattle.rules.specs.Orders.{program}
+use Rattle.book.proofs.Loops.{program_in_any}
 use Rattle.book.proofs.asking.has_program.Goals as goal
 
-pub returns-then-is_program : goal.returns-then-is_program
-returns-then-is_program c =
-    sym (program_stop c.args.orders.now c.loop-order.order-index _ c.loop-order-test.true (sym c.if-is_program.ensures)) ∙ c.loop-order.invariant
-
-pub loop-order-preserved : goal.loop-order-preserved
-loop-order-preserved c =
-    sym (program_more c.args.orders.now c.loop-order.order-index _ c.loop-order-test.true (sym c.if-is_program.ensures)) ∙ c.loop-order.invariant
-
 pub returns : goal.returns
-returns c = sym (program_all c.args.orders.now c.loop-order.order-index c.loop-order-test.false) ∙ c.loop-order.invariant
+returns c =
+    any_from_yields_List (λ o. program o.kind) _ _ _ c.any.ensures.ran (YieldsList-from_slice c.args.orders.now c.iter.ensures.rest) (λ x b q k. search rules)
+    ∙ sym (program_in_any c.args.orders.now)

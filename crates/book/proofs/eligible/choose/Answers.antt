@@ -1,30 +1,29 @@
-use Rattle.std.proofs.Common.{sym, ◌∙◌}
-use Rattle.shelf.proofs.Searches.{first_more, first_here, first_all}
+use Rattle.std.proofs.Common.{◌^◌, ◌<◌, Some, None, rules, sym, ◌∙◌}
+use Rattle.std.proofs.lemmas.Iterator.{YieldsList-from_slice}
+use Rattle.std.proofs.lemmas.Iterator.Search.{position_from_yields_List}
+use Rattle.rules.specs.declared.types.Order.{Order}
 use Rattle.rules.specs.Trading.{passes}
 use Rattle.book.specs.Asked.{asked}
 use Rattle.book.proofs.Prices.{passes_is}
+use Rattle.book.proofs.Searches.{first_by_place}
 use Rattle.book.proofs.eligible.choose.Goals as goal
 
-pub loop-place-preserved : goal.loop-place-preserved
-loop-place-preserved c =
+pub returns-in_err-place-clause-value : goal.returns-in_err-place-clause-value
+returns-in_err-place-clause-value c =
+    let i = c.args.incoming.now in
     let x = asked c.args.bests.now in
-    let p = passes c.args.incoming.now x c.args.own.now c.args.opp.now in
-    let t = c.if-may_trade.ensures in
-    let e = t.value ∙ passes_is c.args.incoming.now x c.prices-prices.result _ c.prices-prices.ensures t.fits c.args.own.now c.args.opp.now in
-    sym (first_more p c.args.opp.now c.loop-place.place _ c.loop-place-test.true (sym e)) ∙ c.loop-place.invariant
+    let own = c.args.own.now in
+    let opp = c.args.opp.now in
+    let met = λ (o : Order) (h : o.price < 2 ^ 32). passes_is i x c.prices-prices.result o c.prices-prices.ensures h own opp in
+    let e = position_from_yields_List (passes i x own opp) _ _ c.position.result c.position.ensures.ran (YieldsList-from_slice opp c.iter.ensures.rest) (λ y b q k. search (rules, met)) in
+    c.from_residual.ensures ∙ sym (first_by_place (passes i x own opp) opp i None (sym c.in_err-place.was ∙ e))
 
-pub returns-then-may_trade : goal.returns-then-may_trade
-returns-then-may_trade c =
+pub returns-clause-value : goal.returns-clause-value
+returns-clause-value c =
+    let i = c.args.incoming.now in
     let x = asked c.args.bests.now in
-    let p = passes c.args.incoming.now x c.args.own.now c.args.opp.now in
-    let t = c.if-may_trade.ensures in
-    let e = t.value ∙ passes_is c.args.incoming.now x c.prices-prices.result _ c.prices-prices.ensures t.fits c.args.own.now c.args.opp.now in
-    record {
-      value = sym (first_here p c.args.opp.now c.loop-place.place _ c.loop-place-test.true (sym e)) ∙ c.loop-place.invariant;
-      within = c.loop-place-test.true;
-    }
-
-pub returns : goal.returns
-returns c =
-    let p = passes c.args.incoming.now (asked c.args.bests.now) c.args.own.now c.args.opp.now in
-    record { value = sym (first_all p c.args.opp.now c.loop-place.place c.loop-place-test.false) ∙ c.loop-place.invariant; within = tt }
+    let own = c.args.own.now in
+    let opp = c.args.opp.now in
+    let met = λ (o : Order) (h : o.price < 2 ^ 32). passes_is i x c.prices-prices.result o c.prices-prices.ensures h own opp in
+    let e = position_from_yields_List (passes i x own opp) _ _ c.position.result c.position.ensures.ran (YieldsList-from_slice opp c.iter.ensures.rest) (λ y b q k. search (rules, met)) in
+    sym (first_by_place (passes i x own opp) opp _ (Some c.in_ok-place.place) (sym c.in_ok-place.was ∙ e))

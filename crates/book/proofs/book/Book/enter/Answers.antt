@@ -1,22 +1,22 @@
-use Rattle.std.proofs.Common.{◌≡◌, ◌+◌, ◌≤◌, max, length, take, sym, refl, ap, ◌∙◌, arith}
+use Rattle.std.proofs.Common.{◌+◌, ◌≤◌, max, length, take, sym, refl, ap, ◌∙◌, arith}
 use Rattle.std.proofs.lemmas.List.{length-take-le}
-use Rattle.std.proofs.lemmas.Bool.Decides.{nat_tests}
+use Rattle.std.proofs.lemmas.Result.{err_from_is_err_and}
 use Rattle.rules.specs.Calls.{market, terms, entered}
 use Rattle.book.specs.Held.{held}
 use Rattle.book.proofs.Entries.{own_count, enter_refused, enter_left, cells_pass}
 use Rattle.shelf.proofs.Cells.{drop_later}
 use Rattle.book.proofs.book.Book.enter.Goals as goal
 
-pub returns-in-Some : goal.returns-in-Some
-returns-in-Some g c =
+pub returns-in_err-check_entry-clause-outcome : goal.returns-in_err-check_entry-clause-outcome
+returns-in_err-check_entry-clause-outcome g c =
     let k = c.args.self.now in
     let b = g.B.Board.quotes c.args.board.now in
     let m = held k c.args.bids.now c.args.offers.now b in
-    let e = c.if-not-has_cells.ensures in
-    let long : (128 ≡ length c.args.bids.now) × (128 ≡ length c.args.offers.now) = grind (arith, nat_tests) in
-    let n = own_count c.args.side k.bids k.offers k.arrivals c.args.bids.now c.args.offers.now b (omega (arith, k.within)) (omega (arith, k.within)) in
-    let f = enter_refused (terms (g.R.Ranking.ranked k.ranking)) m c.args.side c.args.price c.args.kind c.args.shares (length c.args.report.now) _ _ (n ∙ sym c.count.ensures.value) c.in-Some.ensures.value in
-    record { outcome = sym f ∙ cells_pass (length c.args.bids.now) (length c.args.offers.now) m _ e; cells = (refl, refl, refl); rows = refl }
+    let cells = c.in_ok-check_cells.ensures.passes in
+    let n = own_count c.args.side k.bids k.offers k.arrivals c.args.bids.now c.args.offers.now b (omega (arith, k.within, cells)) (omega (arith, k.within, cells)) in
+    let f = enter_refused (terms (g.R.Ranking.ranked k.ranking)) m c.args.side c.args.price c.args.kind c.args.shares (length c.args.report.now) _ _ (n ∙ sym c.count.ensures.value) c.in_err-check_entry.ensures.value in
+    let p = err_from_is_err_and c.from_residual-in_err-check_entry.result c.from_residual-in_err-check_entry.ensures.1 in
+    rw (p.1, p.2) (sym f ∙ cells_pass (length c.args.bids.now) (length c.args.offers.now) m _ cells.0 cells.1)
 
 pub returns-in-Buy : goal.returns-in-Buy
 returns-in-Buy g c =
@@ -24,10 +24,9 @@ returns-in-Buy g c =
     let t = c.trade-t in
     let b = g.B.Board.quotes c.args.board.now in
     let m = held k c.args.bids.now c.args.offers.now b in
-    let e = c.if-not-has_cells.ensures in
-    let rest = c.in_default.ensures in
-    let long : (128 ≡ length c.args.bids.now) × (128 ≡ length c.args.offers.now) = grind (arith, nat_tests) in
-    let n = own_count c.args.side k.bids k.offers k.arrivals c.args.bids.now c.args.offers.now b (omega (arith, k.within)) (omega (arith, k.within)) in
+    let cells = c.in_ok-check_cells.ensures.passes in
+    let rest = c.in_ok-check_entry.ensures in
+    let n = own_count c.args.side k.bids k.offers k.arrivals c.args.bids.now c.args.offers.now b (omega (arith, k.within, cells)) (omega (arith, k.within, cells)) in
     let short : t.result.rows ≤ length t.new.report = omega (arith, t.ensures.counts.2, rest.passes.0) in
     let own = take t.result.own t.new.own in
     let opp = take t.result.opp t.new.opp in
@@ -39,7 +38,7 @@ returns-in-Buy g c =
     let a = c.accept.ensures in
     let w = c.answer.ensures ∙ ap (λ o. entered o t.result.rows) c.with_open.ensures in
     record {
-      outcome = rw (w, a.1, a.2, a.3) (f ∙ cells_pass (length c.args.bids.now) (length c.args.offers.now) m _ e);
+      outcome = rw (w, a.1, a.2, a.3) (f ∙ cells_pass (length c.args.bids.now) (length c.args.offers.now) m _ cells.0 cells.1);
       cells = (a.0, rw a.1 (drop_later t.new.own c.args.bids.now t.result.own (max k.bids t.result.own) (omega arith) t.ensures.behind.2), rw a.2 (drop_later t.new.opp c.args.offers.now k.offers (max k.offers t.result.opp) (omega arith) t.ensures.behind.1));
       rows = rw w t.ensures.behind.0;
     }
@@ -50,10 +49,9 @@ returns-in-Sell g c =
     let t = c.trade-t-in-Sell in
     let b = g.B.Board.quotes c.args.board.now in
     let m = held k c.args.bids.now c.args.offers.now b in
-    let e = c.if-not-has_cells.ensures in
-    let rest = c.in_default.ensures in
-    let long : (128 ≡ length c.args.bids.now) × (128 ≡ length c.args.offers.now) = grind (arith, nat_tests) in
-    let n = own_count c.args.side k.bids k.offers k.arrivals c.args.bids.now c.args.offers.now b (omega (arith, k.within)) (omega (arith, k.within)) in
+    let cells = c.in_ok-check_cells.ensures.passes in
+    let rest = c.in_ok-check_entry.ensures in
+    let n = own_count c.args.side k.bids k.offers k.arrivals c.args.bids.now c.args.offers.now b (omega (arith, k.within, cells)) (omega (arith, k.within, cells)) in
     let short : t.result.rows ≤ length t.new.report = omega (arith, t.ensures.counts.2, rest.passes.0) in
     let own = take t.result.own t.new.own in
     let opp = take t.result.opp t.new.opp in
@@ -65,7 +63,7 @@ returns-in-Sell g c =
     let a = c.accept-in-Sell.ensures in
     let w = c.answer-in-Sell.ensures ∙ ap (λ o. entered o t.result.rows) c.with_open-in-Sell.ensures in
     record {
-      outcome = rw (w, a.1, a.2, a.3) (f ∙ cells_pass (length c.args.bids.now) (length c.args.offers.now) m _ e);
+      outcome = rw (w, a.1, a.2, a.3) (f ∙ cells_pass (length c.args.bids.now) (length c.args.offers.now) m _ cells.0 cells.1);
       cells = (a.0, rw a.1 (drop_later t.new.opp c.args.bids.now k.bids (max k.bids t.result.opp) (omega arith) t.ensures.behind.1), rw a.2 (drop_later t.new.own c.args.offers.now t.result.own (max k.offers t.result.own) (omega arith) t.ensures.behind.2));
       rows = rw w t.ensures.behind.0;
     }
