@@ -55,16 +55,10 @@ impl<R: Ranking + Copy> Book<R> {
         ensures offers { SameBehind self.old.offers self.new.offers offers.old offers.new }
     {
         match at.side {
-            Side::Buy => {
-                if let Ok(count) = take_out(bids, self.bids, at.place) {
-                    self.bids = count;
-                }
-            }
-            Side::Sell => {
-                if let Ok(count) = take_out(offers, self.offers, at.place) {
-                    self.offers = count;
-                }
-            }
+            Side::Buy => self.bids = take_out(bids, self.bids, at.place).unwrap_or(self.bids),
+            Side::Sell => self.offers = take_out(offers, self.offers, at.place).unwrap_or(
+                self.offers,
+            ),
         }
     }
 
@@ -81,16 +75,10 @@ impl<R: Ranking + Copy> Book<R> {
             ranking: self.ranking,
         };
         match side {
-            Side::Buy => {
-                if let Ok(count) = put(&precedence, bids, self.bids, order) {
-                    self.bids = count;
-                }
-            }
-            Side::Sell => {
-                if let Ok(count) = put(&precedence, offers, self.offers, order) {
-                    self.offers = count;
-                }
-            }
+            Side::Buy => self.bids = put(&precedence, bids, self.bids, order).unwrap_or(self.bids),
+            Side::Sell => self.offers = put(&precedence, offers, self.offers, order).unwrap_or(
+                self.offers,
+            ),
         }
     }
 

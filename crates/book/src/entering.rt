@@ -12,7 +12,7 @@ use super::book::Book;
 use super::kinds::{is_cancelled, is_ilo, is_olo, is_too_small, mtv_of};
 use super::limits::{CELLS, MOST_ENTRIES, REPORT_ROWS};
 use super::resting::check_cells;
-use super::sweeping::{measured_sweep, with_open};
+use super::sweeping::{Swept, measured_sweep, with_open};
 use board::Board;
 use market::is_in_range;
 use market::types::{Refusal, Side};
@@ -72,16 +72,8 @@ fn settle<R: Ranking + Copy>(ranking: R, left: &Order, own: &mut [Order], count:
     put(&order, own, count, *left).unwrap_or(count)
 }
 
-// What a sweep and its residue left: the entry's open shares, both counts, and the count of rows.
-#[derive(Clone, Copy)]
-struct Traded {
-    open: u32,
-    own: usize,
-    opp: usize,
-    rows: usize,
-}
-
-// Sweeps the other side and settles the residue on the entry's own.
+// Sweeps the other side and settles the residue on the entry's own. Answers what the sweep left,
+// and how many orders rest on the entry's own side after it.
 fn trade<R: Ranking + Copy, B: Board>(
     ranking: R,
     incoming: &Order,
@@ -91,21 +83,17 @@ fn trade<R: Ranking + Copy, B: Board>(
     opp_count: usize,
     board: &mut B,
     report: &mut [Row],
-) -> Traded
+) -> (Swept, usize)
     requires { (own_count ≤ length own.old) × (((cancels incoming.now.kind ≡ false → own_count < length own.old)) × ((opp_count ≤ 128) × ((opp_count ≤ length opp.old) × (144 ≤ length report.old)))) }
-    ensures swept { swept (take result.rows report.new) (standing (with_open result.«open» incoming.now) (take own_count own.old) (take result.opp opp.new) (B.quotes board.new)) ≡ measured_sweep (standing incoming.now (take own_count own.old) (take opp_count opp.old) (B.quotes board.old)) }
-    ensures own { take result.own own.new ≡ own_after (R.ranked ranking) (with_open result.«open» incoming.now) (take own_count own.old) }
-    ensures counts { (result.own ≤ length own.old) × (result.opp ≤ opp_count) × (result.rows ≤ 144) }
-    ensures behind { (drop result.rows report.new ≡ drop result.rows report.old) × (drop opp_count opp.new ≡ drop opp_count opp.old) × (drop result.own own.new ≡ drop result.own own.old) }
+    ensures swept { swept (take result.0.rows report.new) (standing (with_open result.0.left.«open» incoming.now) (take own_count own.old) (take result.0.left.used opp.new) (B.quotes board.new)) ≡ measured_sweep (standing incoming.now (take own_count own.old) (take opp_count opp.old) (B.quotes board.old)) }
+    ensures own { take result.1 own.new ≡ own_after (R.ranked ranking) (with_open result.0.left.«open» incoming.now) (take own_count own.old) }
+    ensures counts { (result.1 ≤ length own.old) × (result.0.left.used ≤ opp_count) × (result.0.rows ≤ 144) }
+    ensures behind { (drop result.0.rows report.new ≡ drop result.0.rows report.old) × (drop opp_count opp.new ≡ drop opp_count opp.old) × (drop result.1 own.new ≡ drop result.1 own.old) }
 {
-    let swept = measured_sweep(incoming, board, &own[0..own_count], opp, opp_count, report);
-    let left = with_open(incoming, swept.open);
-    Traded {
-        open: swept.open,
-        own: settle(ranking, &left, own, own_count),
-        opp: swept.used,
-        rows: swept.rows,
-    }
+    let swept = measured_sweep(incoming, board, &own[..own_count], opp, opp_count, report);
+    let residue = with_open(incoming, swept.left.open);
+    let rests = settle(ranking, &residue, own, own_count);
+    (swept, rests)
 }
 
 // What an entry answers, by what its sweep left of it.
@@ -188,7 +176,7 @@ impl<R: Ranking + Copy> Book<R> {
         check_entry(&incoming, self.arrivals, self.count(side), report.len())?;
         match side {
             Side::Buy => {
-                let t = trade(
+                let (swept, rests) = trade(
                     self.ranking,
                     &incoming,
                     bids,
@@ -198,11 +186,11 @@ impl<R: Ranking + Copy> Book<R> {
                     board,
                     report,
                 );
-                self.accept(t.own, t.opp);
-                Ok(answer(&with_open(&incoming, t.open), t.rows))
+                self.accept(rests, swept.left.used);
+                Ok(answer(&with_open(&incoming, swept.left.open), swept.rows))
             }
             Side::Sell => {
-                let t = trade(
+                let (swept, rests) = trade(
                     self.ranking,
                     &incoming,
                     offers,
@@ -212,8 +200,8 @@ impl<R: Ranking + Copy> Book<R> {
                     board,
                     report,
                 );
-                self.accept(t.opp, t.own);
-                Ok(answer(&with_open(&incoming, t.open), t.rows))
+                self.accept(swept.left.used, rests);
+                Ok(answer(&with_open(&incoming, swept.left.open), swept.rows))
             }
         }
     }

@@ -17,20 +17,18 @@ use rules::types::{Order, Row};
 use shelf::types::Placed;
 use shelf::{replace, take_out};
 
-// What one step wrote, the shares that it left open, and how many still stand on the other side.
+// What a trade leaves: the entry's open shares, and how many orders still stand on the other side.
 #[derive(Clone, Copy)]
-struct Left {
-    row: Row,
-    open: u32,
-    used: usize,
+pub struct Left {
+    pub open: u32,
+    pub used: usize,
 }
 
-// The same of a whole sweep, with its count of rows.
+// What a whole sweep leaves, with its count of rows.
 #[derive(Clone, Copy)]
 pub struct Swept {
     pub rows: usize,
-    pub open: u32,
-    pub used: usize,
+    pub left: Left,
 }
 
 // An order with other shares open.
@@ -45,18 +43,16 @@ pub fn with_open(order: &Order, open: u32) -> Order
 fn routed_first(incoming: &Order, best: Option<Best>, price: u32) -> Option<Best>
     ensures { result ≡ routed_first incoming.now best price }
 {
-    let best = best?;
-    if is_type2(incoming.kind) && is_better(other(incoming.side), best.quote.price, price) {
-        return Some(best);
-    }
-    None
+    best.filter(|best| {
+        is_type2(incoming.kind) && is_better(other(incoming.side), best.quote.price, price)
+    })
 }
 
 // Routes the lesser of what is open and what the quotation has.
-fn route<B: Board>(incoming: &Order, board: &mut B, best: Best, used: usize) -> Left
-    ensures row { result.row ≡ Route incoming.now.arrival best.market best.quote.price (min incoming.now.«open» best.quote.shares) }
-    ensures left { result.«open» ≡ incoming.now.«open» - min incoming.now.«open» best.quote.shares }
-    ensures used { result.used ≡ used }
+fn route<B: Board>(incoming: &Order, board: &mut B, best: Best, used: usize) -> (Row, Left)
+    ensures row { result.0 ≡ Route incoming.now.arrival best.market best.quote.price (min incoming.now.«open» best.quote.shares) }
+    ensures left { result.1.«open» ≡ incoming.now.«open» - min incoming.now.«open» best.quote.shares }
+    ensures used { result.1.used ≡ used }
     ensures quotes { B.quotes board.new ≡ taken (B.quotes board.old) (opposite incoming.now.side) best.market (min incoming.now.«open» best.quote.shares) }
 {
     let shares = incoming.open.min(best.quote.shares);
@@ -67,11 +63,8 @@ fn route<B: Board>(incoming: &Order, board: &mut B, best: Best, used: usize) -> 
         price: best.quote.price,
         shares,
     };
-    Left {
-        row,
-        open: incoming.open - shares,
-        used,
-    }
+    let open = incoming.open - shares;
+    (row, Left { open, used })
 }
 
 // Takes shares off a resting order, which leaves its side when nothing is left open. Answers the
@@ -83,10 +76,7 @@ fn lower(opp: &mut [Order], used: usize, chosen: Placed<Order>, shares: u32) -> 
     ensures behind { drop used opp.new ≡ drop used opp.old }
 {
     if chosen.item.open <= shares {
-        return match take_out(opp, used, chosen.place) {
-            Ok(count) => count,
-            Err(_) => used,
-        };
+        return take_out(opp, used, chosen.place).unwrap_or(used);
     }
     let left = with_open(&chosen.item, chosen.item.open - shares);
     let _ = replace(opp, used, chosen.place, left);
@@ -94,12 +84,12 @@ fn lower(opp: &mut [Order], used: usize, chosen: Placed<Order>, shares: u32) -> 
 }
 
 // Fills the lesser of what is open of both orders.
-fn fill(incoming: &Order, opp: &mut [Order], used: usize, chosen: Placed<Order>) -> Left
+fn fill(incoming: &Order, opp: &mut [Order], used: usize, chosen: Placed<Order>) -> (Row, Left)
     requires { (chosen.place < used) × (used ≤ length opp.old) }
-    ensures row { result.row ≡ Fill incoming.now.arrival chosen.item.arrival chosen.item.price (min incoming.now.«open» chosen.item.«open») }
-    ensures left { result.«open» ≡ incoming.now.«open» - min incoming.now.«open» chosen.item.«open» }
-    ensures used { result.used ≤ used }
-    ensures stands { take result.used opp.new ≡ filled (take used opp.old) chosen (min incoming.now.«open» chosen.item.«open») }
+    ensures row { result.0 ≡ Fill incoming.now.arrival chosen.item.arrival chosen.item.price (min incoming.now.«open» chosen.item.«open») }
+    ensures left { result.1.«open» ≡ incoming.now.«open» - min incoming.now.«open» chosen.item.«open» }
+    ensures used { result.1.used ≤ used }
+    ensures stands { take result.1.used opp.new ≡ filled (take used opp.old) chosen (min incoming.now.«open» chosen.item.«open») }
     ensures behind { drop used opp.new ≡ drop used opp.old }
 {
     let shares = incoming.open.min(chosen.item.open);
@@ -109,11 +99,9 @@ fn fill(incoming: &Order, opp: &mut [Order], used: usize, chosen: Placed<Order>)
         price: chosen.item.price,
         shares,
     };
-    Left {
-        row,
-        open: incoming.open - shares,
-        used: lower(opp, used, chosen, shares),
-    }
+    let open = incoming.open - shares;
+    let used = lower(opp, used, chosen, shares);
+    (row, Left { open, used })
 }
 
 // One step: none where nothing is open or nothing may trade; else a route or a fill.
@@ -123,17 +111,15 @@ fn step<B: Board>(
     own: &[Order],
     opp: &mut [Order],
     used: usize,
-) -> Option<Left>
+) -> Option<(Row, Left)>
     requires { used ≤ length opp.old }
-    ensures { elim result [ None ↦ (next (standing incoming.now own.now (take used opp.old) (B.quotes board.old)) ≡ None) × (opp.new ≡ opp.old) × (B.quotes board.new ≡ B.quotes board.old) | Some t ↦ (next (standing incoming.now own.now (take used opp.old) (B.quotes board.old)) ≡ Some (stepped t.row (standing (with_open t.«open» incoming.now) own.now (take t.used opp.new) (B.quotes board.new)))) × (t.used ≤ used) × (drop used opp.new ≡ drop used opp.old) ] }
+    ensures { elim result [ None ↦ (next (standing incoming.now own.now (take used opp.old) (B.quotes board.old)) ≡ None) × (opp.new ≡ opp.old) × (B.quotes board.new ≡ B.quotes board.old) | Some t ↦ (next (standing incoming.now own.now (take used opp.old) (B.quotes board.old)) ≡ Some (stepped t.0 (standing (with_open t.1.«open» incoming.now) own.now (take t.1.used opp.new) (B.quotes board.new)))) × (t.1.used ≤ used) × (drop used opp.new ≡ drop used opp.old) ] }
 {
     if incoming.open == 0 {
         return None;
     }
     let bests = bests(board, incoming.side);
-    let Some(chosen) = choose(incoming, &bests, own, &opp[0..used]) else {
-        return None;
-    };
+    let chosen = choose(incoming, &bests, own, &opp[..used])?;
     match routed_first(incoming, bests.other, chosen.item.price) {
         Some(best) => Some(route(incoming, board, best, used)),
         None => Some(fill(incoming, opp, used, chosen)),
@@ -150,30 +136,23 @@ fn sweep<B: Board>(
     report: &mut [Row],
 ) -> Swept
     requires { (used ≤ length opp.old) × (144 ≤ length report.old) }
-    ensures swept { swept (take result.rows report.new) (standing (with_open result.«open» incoming.now) own.now (take result.used opp.new) (B.quotes board.new)) ≡ sweep 144 (standing incoming.now own.now (take used opp.old) (B.quotes board.old)) }
-    ensures used { (result.used ≤ used) × (result.rows ≤ 144) }
+    ensures swept { swept (take result.rows report.new) (standing (with_open result.left.«open» incoming.now) own.now (take result.left.used opp.new) (B.quotes board.new)) ≡ sweep 144 (standing incoming.now own.now (take used opp.old) (B.quotes board.old)) }
+    ensures used { (result.left.used ≤ used) × (result.rows ≤ 144) }
     ensures behind { (drop result.rows report.new ≡ drop result.rows report.old) × (drop used opp.new ≡ drop used opp.old) }
 {
-    let mut open = incoming.open;
-    let mut stand = used;
-    for n in 0..REPORT_ROWS {
-        match step(&with_open(incoming, open), board, own, opp, stand) {
-            None => return Swept {
-                rows: n,
-                open,
-                used: stand,
-            },
-            Some(done) => {
-                report[n] = done.row;
-                open = done.open;
-                stand = done.used;
-            }
-        }
+    let open = incoming.open;
+    let mut left = Left { open, used };
+    for rows in 0..REPORT_ROWS {
+        let now = with_open(incoming, left.open);
+        let Some((row, next)) = step(&now, board, own, opp, left.used) else {
+            return Swept { rows, left };
+        };
+        report[rows] = row;
+        left = next;
     }
     Swept {
         rows: REPORT_ROWS,
-        open,
-        used: stand,
+        left,
     }
 }
 
@@ -196,16 +175,14 @@ pub fn measured_sweep<B: Board>(
     report: &mut [Row],
 ) -> Swept
     requires { (used ≤ 128) × ((used ≤ length opp.old) × (144 ≤ length report.old)) }
-    ensures swept { swept (take result.rows report.new) (standing (with_open result.«open» incoming.now) own.now (take result.used opp.new) (B.quotes board.new)) ≡ measured_sweep (standing incoming.now own.now (take used opp.old) (B.quotes board.old)) }
-    ensures used { (result.used ≤ used) × (result.rows ≤ 144) }
+    ensures swept { swept (take result.rows report.new) (standing (with_open result.left.«open» incoming.now) own.now (take result.left.used opp.new) (B.quotes board.new)) ≡ measured_sweep (standing incoming.now own.now (take used opp.old) (B.quotes board.old)) }
+    ensures used { (result.left.used ≤ used) × (result.rows ≤ 144) }
     ensures behind { (drop result.rows report.new ≡ drop result.rows report.old) × (drop used opp.new ≡ drop used opp.old) }
 {
-    if falls_short(incoming, board, &opp[0..used]) {
-        return Swept {
-            rows: 0,
-            open: incoming.open,
-            used,
-        };
+    if falls_short(incoming, board, &opp[..used]) {
+        let open = incoming.open;
+        let left = Left { open, used };
+        return Swept { rows: 0, left };
     }
     sweep(incoming, board, own, opp, used, report)
 }

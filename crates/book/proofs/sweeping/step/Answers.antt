@@ -1,5 +1,4 @@
 use Rattle.std.proofs.Common.{take, Some, None, refl, ap, ◌∙◌, arith}
-use native.Mathlib.Nat.{sub-zero}
 use Rattle.shelf.specs.Standing.{first}
 use Rattle.rules.specs.Trading.{Bests, passes}
 use Rattle.rules.specs.Sweeps.{standing, routed_first}
@@ -9,25 +8,24 @@ use Rattle.book.proofs.sweeping.step.Goals as goal
 pub returns-then-incoming-eq0 : goal.returns-then-incoming-eq0
 returns-then-incoming-eq0 g c = (next_zero _ c.if-incoming-eq0.true, refl, refl)
 
-pub returns-in_default : goal.returns-in_default
-returns-in_default g c =
+pub returns-in_err-chosen : goal.returns-in_err-chosen
+returns-in_err-chosen g c =
     let i = c.args.incoming.now in
     let os = take c.args.used c.args.opp.now in
     let s = standing i c.args.own.now os (g.B.Board.quotes c.args.board.now) in
-    let e = simp sub-zero at c.in_default.ensures.value in
-    let f = e ∙ ap (λ x. first (passes i x c.args.own.now os) os 0) c.bests-bests.ensures in
-    (next_is s None c.if-incoming-eq0.false f, refl, refl)
+    let f = c.in_err-chosen.ensures.value ∙ ap (λ x. first (passes i x c.args.own.now os) os 0) c.bests-bests.ensures in
+    rw c.from_residual.ensures (next_is s None c.if-incoming-eq0.false f, refl, refl)
 
-pub returns-in-Some-routed_first : goal.returns-in-Some-routed_first
-returns-in-Some-routed_first g c =
+pub returns-in-Some : goal.returns-in-Some
+returns-in-Some g c =
     let i = c.args.incoming.now in
     let os = take c.args.used c.args.opp.now in
     let s = standing i c.args.own.now os (g.B.Board.quotes c.args.board.now) in
-    let e = simp sub-zero at c.in-Some.ensures.value in
-    let f = e ∙ ap (λ x. first (passes i x c.args.own.now os) os 0) c.bests-bests.ensures in
-    let a = next_is s (Some c.in-Some.chosen) c.if-incoming-eq0.false f in
-    let r = c.in-Some-routed_first.ensures ∙ ap (λ (x : Bests). routed_first i x.other c.in-Some.chosen.item.price) c.bests-bests.ensures in
-    let b = chosen_is s c.in-Some.chosen (Some c.in-Some-routed_first.best) r in
+    let chosen = c.in_ok-chosen.chosen in
+    let f = c.in_ok-chosen.ensures.value ∙ ap (λ x. first (passes i x c.args.own.now os) os 0) c.bests-bests.ensures in
+    let a = next_is s (Some chosen) c.if-incoming-eq0.false f in
+    let r = c.in-Some.ensures ∙ ap (λ (x : Bests). routed_first i x.other chosen.item.price) c.bests-bests.ensures in
+    let b = chosen_is s chosen (Some c.in-Some.best) r in
     (cc, omega arith, refl)
 
 pub returns-in-None : goal.returns-in-None
@@ -35,9 +33,9 @@ returns-in-None g c =
     let i = c.args.incoming.now in
     let os = take c.args.used c.args.opp.now in
     let s = standing i c.args.own.now os (g.B.Board.quotes c.args.board.now) in
-    let e = simp sub-zero at c.in-Some.ensures.value in
-    let f = e ∙ ap (λ x. first (passes i x c.args.own.now os) os 0) c.bests-bests.ensures in
-    let a = next_is s (Some c.in-Some.chosen) c.if-incoming-eq0.false f in
-    let r = c.in-None.ensures ∙ ap (λ (x : Bests). routed_first i x.other c.in-Some.chosen.item.price) c.bests-bests.ensures in
-    let b = chosen_is s c.in-Some.chosen None r in
+    let chosen = c.in_ok-chosen.chosen in
+    let f = c.in_ok-chosen.ensures.value ∙ ap (λ x. first (passes i x c.args.own.now os) os 0) c.bests-bests.ensures in
+    let a = next_is s (Some chosen) c.if-incoming-eq0.false f in
+    let r = c.in-None.ensures ∙ ap (λ (x : Bests). routed_first i x.other chosen.item.price) c.bests-bests.ensures in
+    let b = chosen_is s chosen None r in
     (cc, c.fill.ensures.used, c.fill.ensures.behind)
