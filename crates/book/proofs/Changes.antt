@@ -1,27 +1,15 @@
 -- A side with one order taken off or put on, as what it makes of the market. Assumes nothing.
-use Rattle.std.proofs.Common.{◌≡◌, ℕ, ◌+◌, ◌<◌, ◌≤◌, ◌⊎◌, ⊎_elim, max, length, take, drop, Ok, true, false, cond, ◌||◌, eqb, ltb, List, [], Some, None, Err, Option, Result, sym, refl, ap, ◌∙◌, arith}
-use Rattle.std.specs.List.{remove}
+use Rattle.std.proofs.Common.{◌≡◌, ℕ, ◌≤◌, max, true, false, cond, ◌||◌, eqb, ltb, List, [], Some, None, Err, Option, Result, sym, refl, ap, ◌∙◌, arith}
 use Rattle.std.specs.Option.{option_or}
-use Rattle.std.specs.Result.{result_unwrap_or}
-use Rattle.shelf.specs.declared.types.Absent.{Absent}
 use Rattle.market.specs.declared.types.Side.{Side}
 use Rattle.market.specs.declared.types.Refusal.{Refusal}
 use Rattle.market.specs.declared.types.Refusal.TheVariants.{NotResting, CutShares}
 use Rattle.board.specs.Quotes.{Quotes, post_answer, posted, with_quote, if_ok}
 use Rattle.rules.specs.declared.types.Order.{Order}
 use Rattle.rules.specs.declared.types.Located.{Located}
-use Rattle.rules.specs.Calls.{Market, Terms, Outcome, of_side, with_side, taken_off, at_rest, outcome, decided, cancel_refusal, cancelled, cancel, cut_refusal, cut_to, cut_stayed, cut, leaves, market, post_accepted, post}
+use Rattle.rules.specs.Calls.{Market, Terms, Outcome, at_rest, outcome, decided, cancel_refusal, cancelled, cancel, cut_refusal, cut_to, cut_stayed, cut, leaves, market, post_accepted, post}
 use Rattle.book.specs.Held.{SameBehind}
 use Rattle.shelf.proofs.Cells.{drop_later}
-
-pub taken_off_at : (m : Market) (l : Located) (side : Side) (os : List Order) → l.side ≡ side → os ≡ remove (of_side side m) l.place → with_side side os m ≡ taken_off m l
-taken_off_at m l side os e f =
-    ap (λ x. with_side side x m) f ∙ ap (λ s. with_side s (remove (of_side s m) l.place) m) (sym e)
-
--- a take-out of what stands; n is the count after it
-pub taken_out : (r : Result ℕ Absent) (n used at : ℕ) (xs ys : List Order) → (elim r as (λ _. Type 0) [ Ok m ↦ (m + 1 ≡ used) × (at < used) × (used ≤ length xs) × (take m ys ≡ remove (take used xs) at) × (drop m ys ≡ drop m xs) | Err e ↦ (ys ≡ xs) × ((used ≤ at) ⊎ (length xs < used)) ]) → at < used → used ≤ length xs → n ≡ result_unwrap_or r used → (n + 1 ≡ used) × (take n ys ≡ remove (take used xs) at) × (drop n ys ≡ drop n xs)
-taken_out (Ok m) n used at xs ys o h k e = rw e (o.0, o.3, o.4)
-taken_out (Err x) n used at xs ys o h k e = absurd (⊎_elim (λ (a : used ≤ at). omega arith) (λ (b : length xs < used). omega arith) o.1)
 
 -- cells that two changes left behind what stood and stands; the first made no more stand
 pub behind_twice : (xs ys zs : List Order) (a b c : ℕ) → b ≤ a → SameBehind a b xs ys → SameBehind b c ys zs → SameBehind a c xs zs

@@ -1,17 +1,14 @@
 -- What is left of a side decides: one turn of each loop over orders or markets, and its end. Assumes nothing.
-use Rattle.std.proofs.Common.{◌≡◌, ℕ, suc, ◌+◌, ◌-◌, ◌<◌, ◌≤◌, ◌&&◌, ◌||◌, List, [], ◌∷◌, ◌++◌, map, length, get_or, take, drop, set, Option, sym, refl, ap, ◌∙◌, append_assoc, arith}
+use Rattle.std.proofs.Common.{◌≡◌, ℕ, ◌+◌, ◌<◌, ◌≤◌, ◌&&◌, ◌||◌, List, [], ◌∷◌, ◌++◌, map, length, get_or, take, drop, set, sym, refl, ap, ◌∙◌, append_assoc, arith}
 use Rattle.std.specs.List.{list_all, list_any}
 use Rattle.std.proofs.lemmas.List.Recursion.{same_from_clauses}
 use Rattle.std.proofs.lemmas.List.{drop_more, drop_all, take_more, take_more_set, map-append}
 use Rattle.market.specs.declared.types.Side.{Side}
-use Rattle.market.specs.Words.{opposite}
-use Rattle.board.specs.declared.types.Quote.{Quote}
-use Rattle.board.specs.Quotes.{Quotes}
 use Rattle.rules.specs.declared.types.Order.{Order}
 use Rattle.rules.specs.declared.types.Standing.{Standing}
 use Rattle.rules.specs.Orders.{program}
 use Rattle.rules.specs.Calls.{any_program, standing_row}
-use Rattle.rules.specs.Trading.{Bests, all_worse, worse_than, worth, resting_volume, quote_worth, away_upto}
+use Rattle.rules.specs.Trading.{Bests, all_worse, worse_than, worth, resting_volume}
 
 -- what the library's tests over a whole list say
 pub worse_than_all : (p : ℕ) (xs : List Order) → all_worse p xs ≡ list_all (worse_than p) xs
@@ -28,17 +25,6 @@ volume_more i x xs k d s n w h e inv =
 
 pub volume_all : (i : Order) (x : Bests) (xs : List Order) (k : ℕ) → length xs ≤ k → resting_volume i x (drop k xs) ≡ 0
 volume_all i x xs k h = ap (resting_volume i x) (drop_all k xs h)
-
--- the shares of one market more, m
-pub away_more : (i : Order) (b : Quotes) (k m s n : ℕ) (q : Option Quote) → m ≡ suc k → q ≡ b (opposite i.side) m → n ≡ quote_worth i q → s ≡ away_upto i b (m - 1) → s + n ≡ away_upto i b ((m + 1) - 1)
-away_more i b k m s n q c e f h =
-    let one : m - 1 ≡ k = omega arith in
-    let next : (m + 1) - 1 ≡ suc k = omega arith in
-    let a : away_upto i b (suc k) ≡ away_upto i b k + quote_worth i (b (opposite i.side) (suc k)) = refl in
-    let g : quote_worth i q ≡ quote_worth i (b (opposite i.side) (suc k)) = ap (quote_worth i) (e ∙ ap (b (opposite i.side)) c) in
-    let h' : s ≡ away_upto i b k = h ∙ ap (away_upto i b) one in
-    let r : s + n ≡ away_upto i b (suc k) = omega arith in
-    r ∙ sym (ap (away_upto i b) next)
 
 -- one more row of a list that is written from a place on
 pub rows_more : (side : Side) (xs : List Order) (old rows : List Standing) (at i : ℕ) (d : Order) (x : Standing) → x ≡ standing_row side (get_or xs i d) → i < length xs → at + i < length rows → take (at + i) rows ≡ take at old ++ map (standing_row side) (take i xs) → take (at + (i + 1)) (set rows (at + i) x) ≡ take at old ++ map (standing_row side) (take (i + 1) xs)

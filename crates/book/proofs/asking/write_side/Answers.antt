@@ -1,5 +1,5 @@
-use Rattle.std.proofs.Common.{◌≡◌, ◌+◌, ◌<◌, length, refl, ◌∙◌, arith}
-use Rattle.std.proofs.lemmas.List.{drop-set-lt, take_all}
+use Rattle.std.proofs.Common.{◌+◌, ◌<◌, length, ◌∙◌, arith}
+use Rattle.std.proofs.lemmas.List.{drop-set-lt}
 use Rattle.book.proofs.Loops.{rows_more}
 use Rattle.shelf.proofs.Cells.{drop_later}
 use Rattle.book.proofs.asking.write_side.Goals as goal
@@ -13,14 +13,3 @@ loop-i-preserved c =
       rows_more c.args.side c.args.orders.now c.args.rows.now c.loop-i.rows at i _ x c.standing_row.ensures c.loop-i-test.true k c.loop-i.invariant.0,
       drop-set-lt (at + (i + 1)) c.loop-i.rows (at + i) x (omega arith) ∙ drop_later c.loop-i.rows c.args.rows.now (at + i) (at + (i + 1)) (omega arith) c.loop-i.invariant.1,
     )
-
-pub returns : goal.returns
-returns c =
-    let e : c.loop-i.i ≡ length c.args.orders.now = omega arith in
-    let xs = c.args.orders.now in
-    let all = take_all (length xs) xs (omega arith) in
-    record {
-      value = refl;
-      rows = rw (e, all) at c.loop-i.invariant.0;
-      behind = rw e at c.loop-i.invariant.1;
-    }

@@ -1,6 +1,6 @@
-use Rattle.std.proofs.Common.{◌∙◌, arith, rules}
+use Rattle.std.proofs.Common.{◌∙◌, rules}
 use Rattle.book.specs.Asked.{asked}
-use Rattle.book.proofs.Loops.{volume_more, volume_all}
+use Rattle.book.proofs.Loops.{volume_more}
 use Rattle.book.proofs.Prices.{worth_is}
 use Rattle.book.proofs.eligible.resting_volume.Goals as goal
 
@@ -10,8 +10,3 @@ loop-order-preserved c =
       volume_more c.args.incoming.now (asked c.args.bests.now) c.args.opp.now c.loop-order.order-index _ c.loop-order.sum c.from-sum.result _ c.loop-order-test.true (c.from-sum.ensures ∙ c.worth.ensures.value ∙ w) c.loop-order.invariant.0,
       search rules,
     )
-
-pub returns : goal.returns
-returns c =
-    let m = volume_all c.args.incoming.now (asked c.args.bests.now) c.args.opp.now c.loop-order.order-index c.loop-order-test.false in
-    record { value = omega (arith, m, c.loop-order.invariant.0); bound = omega (arith, c.loop-order.invariant.1) }

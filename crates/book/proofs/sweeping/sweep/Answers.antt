@@ -4,9 +4,6 @@ use Rattle.book.proofs.Steps.{sweep_more, sweep_ends, sweep_full}
 use Rattle.shelf.proofs.Cells.{drop_later}
 use Rattle.book.proofs.sweeping.sweep.Goals as goal
 
-pub step-requires : goal.step-requires
-step-requires g c = omega (arith, c.loop-rows.invariant.1)
-
 pub loop-rows-preserved : goal.loop-rows-preserved
 loop-rows-preserved g c =
     let t = c.in-Some.ensures in
@@ -21,16 +18,19 @@ loop-rows-preserved g c =
       drop_later c.step.new.opp c.loop-rows.opp c.loop-rows.left.used c.args.used inv.1 t.2 ∙ inv.3,
     )
 
-pub returns-in_default : goal.returns-in_default
-returns-in_default g c =
+pub returns-in_default-clause-swept : goal.returns-in_default-clause-swept
+returns-in_default-clause-swept g c =
     let t = c.in_default.ensures in
     let n = rw c.with_open-now.ensures at t.0 in
-    let inv = c.loop-rows.invariant in
-    record { swept = rw (t.1, t.2) (sweep_ends _ _ _ _ n inv.0); used = (inv.1, omega arith); behind = (inv.2, rw t.1 inv.3) }
+    rw (t.1, t.2) (sweep_ends _ _ _ _ n c.loop-rows.invariant.0)
 
-pub returns : goal.returns
-returns g c =
+pub returns-clause-swept : goal.returns-clause-swept
+returns-clause-swept g c =
     let e : c.loop-rows.rows ≡ 144 = omega arith in
     let z : 144 - c.loop-rows.rows ≡ 0 = omega arith in
-    let inv = c.loop-rows.invariant in
-    record { swept = rw e at (sweep_full _ _ _ _ z inv.0); used = (inv.1, omega arith); behind = (rw e at inv.2, inv.3) }
+    rw e at (sweep_full _ _ _ _ z c.loop-rows.invariant.0)
+
+pub returns-clause-behind : goal.returns-clause-behind
+returns-clause-behind g c =
+    let e : c.loop-rows.rows ≡ 144 = omega arith in
+    (rw e at c.loop-rows.invariant.2, c.loop-rows.invariant.3)
