@@ -1,6 +1,6 @@
 -- The market that a book holds in the cells of its two sides and in a board, and what a call leaves
 -- of the cells. Rests on the calls of the rules.
-use Rattle.std.specs.Prelude.{◌≡◌, ℕ, max, List, take, drop, Some, None, Ok, Err, Option, Result}
+use Rattle.std.specs.Prelude.{◌≡◌, ℕ, max, List, length, take, drop, Some, None, Ok, Err, Option, Result}
 use Rattle.market.specs.declared.types.Refusal.{Refusal}
 use Rattle.board.specs.Quotes.{Quotes}
 use Rattle.rules.specs.declared.types.Order.{Order}
@@ -10,9 +10,17 @@ use Rattle.book.specs.declared.book.Book.{Book}
 abbrev pub held : {R : Type 0} → Book R → List Order → List Order → Quotes → Market
 held k bids offers b = market (take k.bids bids) (take k.offers offers) b k.arrivals
 
+-- each side has its 128 cells
+abbrev pub HasCells : List Order → List Order → Type 0
+HasCells bids offers = (length bids ≡ 128) × (length offers ≡ 128)
+
+-- from a place on, cells or rows keep what they had
+abbrev pub KeptFrom : {A : Type 0} → ℕ → List A → List A → Type 0
+KeptFrom n old new = drop n new ≡ drop n old
+
 -- the cells behind those where orders stood or stand keep what they had
 abbrev pub SameBehind : ℕ → ℕ → List Order → List Order → Type 0
-SameBehind n m old new = drop (max n m) new ≡ drop (max n m) old
+SameBehind n m old new = KeptFrom (max n m) old new
 
 -- a refused call leaves the book and the cells of both sides as they were; an accepted one leaves
 -- the ranking and the cells behind

@@ -3,7 +3,7 @@ ghost use Rattle.std.specs.Prelude.{◌≡◌, ℕ, ◌+◌, ◌≤◌, true, �
 ghost use Rattle.std.specs.List.Sorted.{IsPermutation};
 ghost use Rattle.board.specs.Quotes.{Quotes};
 ghost use Rattle.rules.specs.Calls.{cells_refusal, list_refusal, open_of, open_shares, any_program, lit, standing_row, standing_rows};
-ghost use Rattle.book.specs.Held.{held, asked_for};
+ghost use Rattle.book.specs.Held.{held, asked_for, KeptFrom};
 
 use super::book::Book;
 use super::kinds::is_program;
@@ -35,7 +35,7 @@ fn write_side(side: Side, orders: &[Order], rows: &mut [Standing], at: usize) ->
     requires { at + length orders.now ≤ length rows.old }
     ensures value { result ≡ at + length orders.now }
     ensures rows { take result rows.new ≡ take at rows.old ++ map (standing_row side) orders.now }
-    ensures behind { drop result rows.new ≡ drop result rows.old }
+    ensures behind { KeptFrom result rows.old rows.new }
 {
     for (i, order) in orders.iter().enumerate() {
         rows[at + i] = standing_row(side, order);

@@ -4,7 +4,7 @@ ghost use Rattle.board.specs.Quotes.{Quotes};
 ghost use Rattle.rules.specs.declared.types.Row.{Row};
 ghost use Rattle.rules.specs.Calls.{leaves, cut_down, taken_off, put_on, cells_refusal, decided, outcome, terms, cancel, cut, rows_in, RowsKept};
 ghost use Rattle.book.specs.Counts.{count_of, side_of};
-ghost use Rattle.book.specs.Held.{held, CellsKept, SameBehind};
+ghost use Rattle.book.specs.Held.{held, CellsKept, HasCells, SameBehind};
 
 use super::book::Book;
 use super::kinds::is_too_small;
@@ -46,7 +46,7 @@ fn gone(order: &Order) -> Accepted
 impl<R: Ranking + Copy> Book<R> {
     // Takes a resting order off its side.
     fn take_off(&mut self, at: &Located, bids: &mut [Order], offers: &mut [Order])
-        requires { (length bids.old ≡ 128) × ((length offers.old ≡ 128) × (at.now.place < count_of at.now.side self.old.bids self.old.offers)) }
+        requires { HasCells bids.old offers.old × (at.now.place < count_of at.now.side self.old.bids self.old.offers) }
         ensures market { (b : Quotes) → held self.new bids.new offers.new b ≡ taken_off (held self.old bids.old offers.old b) at.now }
         ensures fewer { (self.new.bids ≤ self.old.bids) × (self.new.offers ≤ self.old.offers) }
         ensures room { count_of at.now.side self.new.bids self.new.offers < 128 }
@@ -64,7 +64,7 @@ impl<R: Ranking + Copy> Book<R> {
 
     // Puts an order on a side.
     fn put_on(&mut self, side: Side, order: Order, bids: &mut [Order], offers: &mut [Order])
-        requires { (length bids.old ≡ 128) × ((length offers.old ≡ 128) × (count_of side self.old.bids self.old.offers < 128)) }
+        requires { HasCells bids.old offers.old × (count_of side self.old.bids self.old.offers < 128) }
         ensures market { (b : Quotes) → held self.new bids.new offers.new b ≡ put_on (R.ranked self.old.ranking) side order (held self.old bids.old offers.old b) }
         ensures ranking { self.new.ranking ≡ self.old.ranking }
         ensures bids { SameBehind self.old.bids self.new.bids bids.old bids.new }

@@ -1,12 +1,13 @@
 // An entry: sent back, or swept against the other side, and its residue rested or cancelled.
 ghost use Rattle.std.specs.Prelude.{◌≡◌, ℕ, ◌+◌, ◌<◌, ◌≤◌, true, false, length, take, drop, Some, Ok, Err, OnOk};
 ghost use Rattle.std.specs.Result.{result_err};
+ghost use Rattle.market.specs.Words.{opposite};
 ghost use Rattle.board.specs.Quotes.{Quotes};
 ghost use Rattle.rules.specs.Orders.{cancels};
 ghost use Rattle.rules.specs.Sweeps.{standing, swept, with_open, measured_sweep};
 ghost use Rattle.rules.specs.Calls.{cells_ok, cells_refusal, enter_refusal, own_after, entered, decided, outcome, rows_in, RowsKept, terms, enter, fresh};
 ghost use Rattle.book.specs.Counts.{count_of};
-ghost use Rattle.book.specs.Held.{held, CellsKept};
+ghost use Rattle.book.specs.Held.{held, CellsKept, KeptFrom};
 
 use super::book::Book;
 use super::kinds::{is_cancelled, is_ilo, is_olo, is_too_small, mtv_of};
@@ -14,8 +15,8 @@ use super::limits::{CELLS, MOST_ENTRIES, REPORT_ROWS};
 use super::resting::check_cells;
 use super::sweeping::{Swept, measured_sweep, with_open};
 use board::Board;
-use market::is_in_range;
 use market::types::{Refusal, Side};
+use market::{is_in_range, other};
 use rules::ranking::{Ranking, Sided};
 use rules::types::{Accepted, Kind, Order, Row};
 use shelf::{empty, put};
@@ -60,7 +61,7 @@ fn settle<R: Ranking + Copy>(ranking: R, left: &Order, own: &mut [Order], count:
     requires { (count ≤ length own.old) × ((cancels left.now.kind ≡ false → count < length own.old)) }
     ensures stands { take result own.new ≡ own_after (R.ranked ranking) left.now (take count own.old) }
     ensures within { result ≤ length own.old }
-    ensures behind { drop result own.new ≡ drop result own.old }
+    ensures behind { KeptFrom result own.old own.new }
 {
     if left.open == 0 || is_cancelled(left.kind) {
         return count;
@@ -88,7 +89,7 @@ fn trade<R: Ranking + Copy, B: Board>(
     ensures swept { swept (take result.0.rows report.new) (standing (with_open result.0.left.«open» incoming.now) (take own_count own.old) (take result.0.left.used opp.new) (B.quotes board.new)) ≡ measured_sweep (standing incoming.now (take own_count own.old) (take opp_count opp.old) (B.quotes board.old)) }
     ensures own { take result.1 own.new ≡ own_after (R.ranked ranking) (with_open result.0.left.«open» incoming.now) (take own_count own.old) }
     ensures counts { (result.1 ≤ length own.old) × (result.0.left.used ≤ opp_count) × (result.0.rows ≤ 144) }
-    ensures behind { (drop result.0.rows report.new ≡ drop result.0.rows report.old) × (drop opp_count opp.new ≡ drop opp_count opp.old) × (drop result.1 own.new ≡ drop result.1 own.old) }
+    ensures behind { KeptFrom result.0.rows report.old report.new × KeptFrom opp_count opp.old opp.new × KeptFrom result.1 own.old own.new }
 {
     let swept = measured_sweep(incoming, board, &own[..own_count], opp, opp_count, report);
     let residue = with_open(incoming, swept.left.open);
@@ -138,13 +139,15 @@ impl<R: Ranking + Copy> Book<R> {
         }
     }
 
-    // Notes an accepted entry and the new counts.
-    fn accept(&mut self, bids: usize, offers: usize)
-        requires { (bids ≤ 128) × ((offers ≤ 128) × (self.old.arrivals < 1000000)) }
-        ensures { (self.new.ranking ≡ self.old.ranking) × (self.new.bids ≡ bids) × (self.new.offers ≡ offers) × (self.new.arrivals ≡ self.old.arrivals + 1) }
+    // Notes an accepted entry, and the new counts of its own side and of the other.
+    fn accept(&mut self, side: Side, own: usize, opp: usize)
+        requires { (own ≤ 128) × ((opp ≤ 128) × (self.old.arrivals < 1000000)) }
+        ensures { (self.new.ranking ≡ self.old.ranking) × (self.new.bids ≡ count_of side own opp) × (self.new.offers ≡ count_of (opposite side) own opp) × (self.new.arrivals ≡ self.old.arrivals + 1) }
     {
-        self.bids = bids;
-        self.offers = offers;
+        (self.bids, self.offers) = match side {
+            Side::Buy => (own, opp),
+            Side::Sell => (opp, own),
+        };
         self.arrivals += 1;
     }
 
@@ -174,35 +177,13 @@ impl<R: Ranking + Copy> Book<R> {
             open: shares,
         };
         check_entry(&incoming, self.arrivals, self.count(side), report.len())?;
-        match side {
-            Side::Buy => {
-                let (swept, rests) = trade(
-                    self.ranking,
-                    &incoming,
-                    bids,
-                    self.bids,
-                    offers,
-                    self.offers,
-                    board,
-                    report,
-                );
-                self.accept(rests, swept.left.used);
-                Ok(answer(&with_open(&incoming, swept.left.open), swept.rows))
-            }
-            Side::Sell => {
-                let (swept, rests) = trade(
-                    self.ranking,
-                    &incoming,
-                    offers,
-                    self.offers,
-                    bids,
-                    self.bids,
-                    board,
-                    report,
-                );
-                self.accept(swept.left.used, rests);
-                Ok(answer(&with_open(&incoming, swept.left.open), swept.rows))
-            }
-        }
+        let (own, opp) = (self.count(side), self.count(other(side)));
+        let ranking = self.ranking;
+        let (swept, rests) = match side {
+            Side::Buy => trade(ranking, &incoming, bids, own, offers, opp, board, report),
+            Side::Sell => trade(ranking, &incoming, offers, own, bids, opp, board, report),
+        };
+        self.accept(side, rests, swept.left.used);
+        Ok(answer(&with_open(&incoming, swept.left.open), swept.rows))
     }
 }

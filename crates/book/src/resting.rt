@@ -5,7 +5,7 @@ ghost use Rattle.std.specs.Result.{result_err};
 ghost use Rattle.board.specs.Quotes.{Quotes};
 ghost use Rattle.rules.specs.Calls.{located, on_side, of_arrival, at_rest, cells_refusal, cancel_refusal};
 ghost use Rattle.book.specs.Counts.{count_of, side_of};
-ghost use Rattle.book.specs.Held.{held};
+ghost use Rattle.book.specs.Held.{held, HasCells};
 
 use super::book::Book;
 use super::limits::CELLS;
@@ -16,7 +16,7 @@ use shelf::find;
 // Each side handed in has its 128 cells, or the call is sent back.
 pub fn check_cells(bids: &[Order], offers: &[Order]) -> Result<(), Refusal>
     ensures value { result_err result ≡ cells_refusal (length bids.now) (length offers.now) }
-    ensures passes { OnOk result ((length bids.now ≡ 128) × (length offers.now ≡ 128)) }
+    ensures passes { OnOk result (HasCells bids.now offers.now) }
 {
     if bids.len() != CELLS || offers.len() != CELLS {
         return Err(Refusal::SideCells);
@@ -55,7 +55,7 @@ impl<R> Book<R> {
     ) -> Result<(&'a [Order], &'a [Order]), Refusal>
         ensures value { elim result [ Ok r ↦ (r.0.now ≡ take self.now.bids bids.now) × (r.1.now ≡ take self.now.offers offers.now) | Err e ↦ Unit {0} ] }
         ensures refusal { result_err result ≡ cells_refusal (length bids.now) (length offers.now) }
-        ensures passes { OnOk result ((length bids.now ≡ 128) × (length offers.now ≡ 128)) }
+        ensures passes { OnOk result (HasCells bids.now offers.now) }
     {
         check_cells(bids, offers)?;
         Ok((&bids[..self.bids], &offers[..self.offers]))
@@ -70,7 +70,7 @@ impl<R> Book<R> {
     ) -> Result<Located, Refusal>
         ensures value { (b : Quotes) → elim result [ Ok l ↦ Some l ≡ at_rest arrival (held self.now bids.now offers.now b) | Err e ↦ Unit {0} ] }
         ensures refusal { (b : Quotes) → result_err result ≡ option_or (cells_refusal (length bids.now) (length offers.now)) (cancel_refusal (at_rest arrival (held self.now bids.now offers.now b))) }
-        ensures passes { elim result [ Ok l ↦ (length bids.now ≡ 128) × (length offers.now ≡ 128) × (l.place < count_of l.side self.now.bids self.now.offers) | Err e ↦ Unit {0} ] }
+        ensures passes { elim result [ Ok l ↦ HasCells bids.now offers.now × (l.place < count_of l.side self.now.bids self.now.offers) | Err e ↦ Unit {0} ] }
     {
         let (bids, offers) = self.resting(bids, offers)?;
         locate(arrival, bids, offers).ok_or(Refusal::NotResting)

@@ -5,6 +5,7 @@ ghost use Rattle.market.specs.Words.{opposite};
 ghost use Rattle.rules.specs.declared.types.Row.TheVariants.{Fill, Route};
 ghost use Rattle.rules.specs.Orders.{mtv_of};
 ghost use Rattle.rules.specs.Trading.{volume};
+ghost use Rattle.book.specs.Held.{KeptFrom};
 ghost use Rattle.rules.specs.Sweeps.{with_open, taken, filled, standing, stepped, routed_first, next, sweep, swept, measured_sweep};
 
 use super::eligible::{bests, choose, volume};
@@ -73,7 +74,7 @@ fn lower(opp: &mut [Order], used: usize, chosen: Placed<Order>, shares: u32) -> 
     requires { (chosen.place < used) × (used ≤ length opp.old) }
     ensures stands { take result opp.new ≡ filled (take used opp.old) chosen shares }
     ensures within { result ≤ used }
-    ensures behind { drop used opp.new ≡ drop used opp.old }
+    ensures behind { KeptFrom used opp.old opp.new }
 {
     if chosen.item.open <= shares {
         return take_out(opp, used, chosen.place).unwrap_or(used);
@@ -90,7 +91,7 @@ fn fill(incoming: &Order, opp: &mut [Order], used: usize, chosen: Placed<Order>)
     ensures left { result.1.«open» ≡ incoming.now.«open» - min incoming.now.«open» chosen.item.«open» }
     ensures used { result.1.used ≤ used }
     ensures stands { take result.1.used opp.new ≡ filled (take used opp.old) chosen (min incoming.now.«open» chosen.item.«open») }
-    ensures behind { drop used opp.new ≡ drop used opp.old }
+    ensures behind { KeptFrom used opp.old opp.new }
 {
     let shares = incoming.open.min(chosen.item.open);
     let row = Row::Fill {
@@ -113,7 +114,7 @@ fn step<B: Board>(
     used: usize,
 ) -> Option<(Row, Left)>
     requires { used ≤ length opp.old }
-    ensures { elim result [ None ↦ (next (standing incoming.now own.now (take used opp.old) (B.quotes board.old)) ≡ None) × (opp.new ≡ opp.old) × (B.quotes board.new ≡ B.quotes board.old) | Some t ↦ (next (standing incoming.now own.now (take used opp.old) (B.quotes board.old)) ≡ Some (stepped t.0 (standing (with_open t.1.«open» incoming.now) own.now (take t.1.used opp.new) (B.quotes board.new)))) × (t.1.used ≤ used) × (drop used opp.new ≡ drop used opp.old) ] }
+    ensures { elim result [ None ↦ (next (standing incoming.now own.now (take used opp.old) (B.quotes board.old)) ≡ None) × (opp.new ≡ opp.old) × (B.quotes board.new ≡ B.quotes board.old) | Some t ↦ (next (standing incoming.now own.now (take used opp.old) (B.quotes board.old)) ≡ Some (stepped t.0 (standing (with_open t.1.«open» incoming.now) own.now (take t.1.used opp.new) (B.quotes board.new)))) × (t.1.used ≤ used) × KeptFrom used opp.old opp.new ] }
 {
     if incoming.open == 0 {
         return None;
@@ -138,7 +139,7 @@ fn sweep<B: Board>(
     requires { (used ≤ length opp.old) × (144 ≤ length report.old) }
     ensures swept { swept (take result.rows report.new) (standing (with_open result.left.«open» incoming.now) own.now (take result.left.used opp.new) (B.quotes board.new)) ≡ sweep 144 (standing incoming.now own.now (take used opp.old) (B.quotes board.old)) }
     ensures used { (result.left.used ≤ used) × (result.rows ≤ 144) }
-    ensures behind { (drop result.rows report.new ≡ drop result.rows report.old) × (drop used opp.new ≡ drop used opp.old) }
+    ensures behind { KeptFrom result.rows report.old report.new × KeptFrom used opp.old opp.new }
 {
     let open = incoming.open;
     let mut left = Left { open, used };
@@ -177,7 +178,7 @@ pub fn measured_sweep<B: Board>(
     requires { (used ≤ 128) × ((used ≤ length opp.old) × (144 ≤ length report.old)) }
     ensures swept { swept (take result.rows report.new) (standing (with_open result.left.«open» incoming.now) own.now (take result.left.used opp.new) (B.quotes board.new)) ≡ measured_sweep (standing incoming.now own.now (take used opp.old) (B.quotes board.old)) }
     ensures used { (result.left.used ≤ used) × (result.rows ≤ 144) }
-    ensures behind { (drop result.rows report.new ≡ drop result.rows report.old) × (drop used opp.new ≡ drop used opp.old) }
+    ensures behind { KeptFrom result.rows report.old report.new × KeptFrom used opp.old opp.new }
 {
     if falls_short(incoming, board, &opp[..used]) {
         let open = incoming.open;
