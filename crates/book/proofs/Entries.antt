@@ -12,6 +12,7 @@ use Rattle.rules.specs.declared.types.Row.{Row}
 use Rattle.rules.specs.Sweeps.{Swept, standing, swept, with_open, measured_sweep}
 use Rattle.rules.specs.Calls.{Market, Terms, Outcome, market, of_side, by_sides, outcome, arriving, enter_refusal, cells_refusal, decided, settled, entered, own_after, enter}
 use Rattle.book.specs.Counts.{count_of}
+use Rattle.book.specs.Held.{HasCells}
 
 -- what stands of a side is as long as its count
 pub own_count : (side : Side) (b o n : ℕ) (bids offers : List Order) (q : Quotes) → b ≤ length bids → o ≤ length offers → length (of_side side (market (take b bids) (take o offers) q n)) ≡ count_of side b o
@@ -19,8 +20,8 @@ own_count Buy b o n bids offers q h k = length-take-le b bids h
 own_count Sell b o n bids offers q h k = length-take-le o offers k
 
 -- with 128 cells on each side a call is decided by its own cases
-pub cells_pass : (a b : ℕ) (m : Market) (o : Outcome) → a ≡ 128 → b ≡ 128 → o ≡ decided (cells_refusal a b) m o
-cells_pass a b m o e f = rw (e, f) refl
+pub cells_pass : (bids offers : List Order) (m : Market) (o : Outcome) → HasCells bids offers → o ≡ decided (cells_refusal (length bids) (length offers)) m o
+cells_pass bids offers m o h = rw (h.0, h.1) refl
 
 module _ (t : Terms) (m : Market) (side : Side) (price : ℕ) (kind : Kind) (shares room : ℕ) where
   abbrev i : Order

@@ -1,7 +1,7 @@
 -- A search for the first order that passes, by what a search for its place alone answers. Assumes nothing.
-use Rattle.std.proofs.Common.{◌≡◌, ℕ, suc, ◌+◌, ◌<◌, ◌≤◌, Bool, cond, ltb, List, [], ◌∷◌, length, get_or, Some, None, Option, refl, ap, ◌∙◌, arith}
+use Rattle.std.proofs.Common.{◌≡◌, ℕ, suc, ◌+◌, ◌<◌, ◌≤◌, Bool, List, [], ◌∷◌, length, get_or, Some, None, Option, refl, ap, ◌∙◌, arith}
 use Rattle.std.specs.Prelude.{IfSome}
-use Rattle.std.specs.List.{position_or_len}
+use Rattle.std.specs.List.{position, position_or_len}
 use Rattle.std.proofs.lemmas.Bool.{cases_Bool}
 use Rattle.std.proofs.lemmas.Bool.Decides.{nat_tests}
 use Rattle.shelf.specs.declared.types.Placed.{Placed}
@@ -26,7 +26,7 @@ module _ {X : Type 0} (p : X → Bool) where
       grind (arith, nat_tests, cases_Bool (p x))
 
   -- r is what the library's search for the place answers
-  pub first_by_place : (xs : List X) (d : X) (r : Option ℕ) → r ≡ cond (ltb (position_or_len p xs) (length xs)) (Some (position_or_len p xs)) None → first p xs 0 ≡ elim r [ None ↦ None | Some i ↦ Some (record { place = i; item = get_or xs i d }) ]
+  pub first_by_place : (xs : List X) (d : X) (r : Option ℕ) → r ≡ position p xs → first p xs 0 ≡ elim r [ None ↦ None | Some i ↦ Some (record { place = i; item = get_or xs i d }) ]
   first_by_place xs d None e = first_nowhere xs 0 (grind (arith, nat_tests))
   first_by_place xs d (Some i) e =
       let h : (i ≡ position_or_len p xs) × (i < length xs) = grind (arith, nat_tests) in

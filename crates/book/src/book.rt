@@ -1,5 +1,6 @@
-// A book: its ranking, how many orders rest on each side, and how many entries were accepted. The
-// cells of the two sides are handed to each call.
+// A book: its ranking, how many orders rest on each side, and how many entries were accepted. It
+// keeps no memory of its own: the cells of each side are lent with each call, as a slice of their
+// own, so bids, offers, board and report are parameters of each call that uses them.
 ghost use Rattle.std.specs.Prelude.{◌≤◌};
 
 #[derive(Drop)]

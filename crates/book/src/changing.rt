@@ -54,6 +54,7 @@ impl<R: Ranking + Copy> Book<R> {
         ensures bids { SameBehind self.old.bids self.new.bids bids.old bids.new }
         ensures offers { SameBehind self.old.offers self.new.offers offers.old offers.new }
     {
+        // The borrow checker follows no `&mut` that a `match` chose, so each arm makes the call.
         match at.side {
             Side::Buy => self.bids = take_out(bids, self.bids, at.place).unwrap_or(self.bids),
             Side::Sell => self.offers = take_out(offers, self.offers, at.place).unwrap_or(
@@ -74,6 +75,7 @@ impl<R: Ranking + Copy> Book<R> {
             side,
             ranking: self.ranking,
         };
+        // As in `take_off`, each arm makes the call.
         match side {
             Side::Buy => self.bids = put(&precedence, bids, self.bids, order).unwrap_or(self.bids),
             Side::Sell => self.offers = put(&precedence, offers, self.offers, order).unwrap_or(

@@ -179,6 +179,7 @@ impl<R: Ranking + Copy> Book<R> {
         check_entry(&incoming, self.arrivals, self.count(side), report.len())?;
         let (own, opp) = (self.count(side), self.count(other(side)));
         let ranking = self.ranking;
+        // The borrow checker follows no `&mut` that a `match` chose, so each arm makes the call.
         let (swept, rests) = match side {
             Side::Buy => trade(ranking, &incoming, bids, own, offers, opp, board, report),
             Side::Sell => trade(ranking, &incoming, offers, own, bids, opp, board, report),

@@ -72,6 +72,7 @@ const KINDS_MEET: [[bool; 4]; 4] = [
     [true, true, true, true],
 ];
 
+// Where a kind stands in the table: a place, so a number.
 fn kind_row(kind: Kind) -> usize
     ensures { result ≡ kind_row kind }
 {

@@ -1,5 +1,5 @@
 // The sweep of an entry: routes and fills, one at a time, until nothing is left of it or nothing
-// may trade.
+// may trade. The cells of the other side are lent, so the count of those in use travels beside them.
 ghost use Rattle.std.specs.Prelude.{◌≡◌, ℕ, ◌+◌, ◌-◌, ◌<◌, ◌≤◌, min, not, length, take, drop, Some, None, nat_le};
 ghost use Rattle.market.specs.Words.{opposite};
 ghost use Rattle.rules.specs.declared.types.Row.TheVariants.{Fill, Route};
@@ -143,6 +143,7 @@ fn sweep<B: Board>(
 {
     let open = incoming.open;
     let mut left = Left { open, used };
+    // By the place of a row, which is also the count of those before it.
     for rows in 0..REPORT_ROWS {
         let now = with_open(incoming, left.open);
         let Some((row, next)) = step(&now, board, own, opp, left.used) else {

@@ -57,9 +57,7 @@ fn calls_with_127_cells(rt: HostRuntime) -> Result<(), Fail> {
     let mut bids = [EMPTY; 128];
     let mut report = [NO_ROW; 144];
     let mut board = Plate::new();
-    let Ok(mut book) = Book::make(SizeTime, &bids, &bids) else {
-        return Err(Fail::new("no book"));
-    };
+    let mut book = Book::make(SizeTime, &bids, &bids)?;
     let answer = book.enter(
         Side::Buy,
         1000,
@@ -90,9 +88,7 @@ fn short_reports_and_lists(rt: HostRuntime) -> Result<(), Fail> {
     let mut offers = [EMPTY; 128];
     let mut report = [NO_ROW; 143];
     let mut board = Plate::new();
-    let Ok(mut book) = Book::make(SizeTime, &bids, &offers) else {
-        return Err(Fail::new("no book"));
-    };
+    let mut book = Book::make(SizeTime, &bids, &offers)?;
     let answer = book.enter(
         Side::Buy,
         0,
@@ -161,7 +157,6 @@ fn sell(
     offers: &mut [Order],
 ) -> Result<Accepted, Refusal> {
     let mut report = [NO_ROW; 144];
-    let report = &mut report[0..144];
     let mut board = Plate::new();
     let mut last = answered(0, 0, 0);
     for _ in 0..times {
@@ -173,7 +168,7 @@ fn sell(
             bids,
             offers,
             &mut board,
-            report,
+            &mut report,
         );
     }
     last
@@ -183,9 +178,7 @@ fn sell(
 fn cuts_at_the_least_size(rt: HostRuntime) -> Result<(), Fail> {
     let mut bids = [EMPTY; 128];
     let mut offers = [EMPTY; 128];
-    let Ok(mut book) = Book::make(SizeTime, &bids, &offers) else {
-        return Err(Fail::new("no book"));
-    };
+    let mut book = Book::make(SizeTime, &bids, &offers)?;
     let answer = sell(&mut book, Kind::Olo, 700, 2, &mut bids, &mut offers);
     assert_eq!(rt; answer, answered(2, 700, 0));
     assert_eq!(rt;
@@ -210,9 +203,7 @@ fn arrivals_are_spent(rt: HostRuntime) -> Result<(), Fail> {
         mtv: 0,
         mark: Mark::Cancel,
     };
-    let Ok(mut book) = Book::make(SizeTime, &bids, &offers) else {
-        return Err(Fail::new("no book"));
-    };
+    let mut book = Book::make(SizeTime, &bids, &offers)?;
     let answer = sell(&mut book, kind, 5000, 1_000_000, &mut bids, &mut offers);
     assert_eq!(rt; answer, answered(1_000_000, 0, 5000));
     let answer = sell(&mut book, kind, 5000, 1, &mut bids, &mut offers);

@@ -9,16 +9,12 @@ use std::test::Fail;
 fn plays(rt: &impl Abort, name: &str, text: &[u8], expected: &[u8]) -> Result<(), Fail> {
     let mut file = [0u8; 1024];
     let mut listing = [0u8; LISTING_BYTES];
-    let Ok(size) = pack(text, &mut file) else {
-        return Err(Fail::new(format_args!("{name}: not packed")));
-    };
-    match run_session(&file[0..size], &mut listing) {
-        Ok(length) => {
-            assert!(rt; &listing[0..length] == expected, "{name}");
-            Ok(())
-        },
-        Err(_) => Err(Fail::new(format_args!("{name}: refused"))),
-    }
+    let size = pack(text, &mut file).map_err(|_| Fail::new(format_args!("{name}: not packed")))?;
+    let length = run_session(&file[..size], &mut listing).map_err(|_| Fail::new(format_args!(
+        "{name}: refused"
+    )))?;
+    assert!(rt; &listing[..length] == expected, "{name}");
+    Ok(())
 }
 
 const TWO_ORDERS: &[u8; 49] = b"N ABLE O B 1000 5000\n\

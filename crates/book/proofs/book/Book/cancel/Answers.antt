@@ -20,4 +20,4 @@ returns-clause-outcome g c = λ b.
     ap (λ a. outcome (Ok a) [] (held c.take_off.new.self c.take_off.new.bids c.take_off.new.offers b)) c.gone.ensures
     ∙ ap (outcome (Ok (accepted at.order.arrival 0 at.order.«open» 0)) []) (c.take_off.ensures.market b)
     ∙ cancel_done m c.args.arrival at (found.value b)
-    ∙ cells_pass (length c.args.bids.now) (length c.args.offers.now) m _ found.passes.0.0 found.passes.0.1
+    ∙ cells_pass c.args.bids.now c.args.offers.now m _ found.passes.0

@@ -23,7 +23,7 @@ returns-then-shares-eq0-clause-outcome g c = λ b.
     let o = c.then-shares-eq0.either in
     let r : (eqb c.args.shares 0 || ltb c.in_ok-at.at.order.«open» c.args.shares) ≡ true = grind (arith, nat_tests) in
     cut_refused (terms (g.R.Ranking.ranked k.ranking)) m c.args.arrival c.args.shares c.in_ok-at.at (found.value b) r
-    ∙ cells_pass (length c.args.bids.now) (length c.args.offers.now) m _ found.passes.0.0 found.passes.0.1
+    ∙ cells_pass c.args.bids.now c.args.offers.now m _ found.passes.0
 
 pub returns-then-leaves-clause-outcome : goal.returns-then-leaves-clause-outcome
 returns-then-leaves-clause-outcome g c = λ b.
@@ -35,7 +35,7 @@ returns-then-leaves-clause-outcome g c = λ b.
     ap (λ a. outcome (Ok a) [] (held c.take_off.new.self c.take_off.new.bids c.take_off.new.offers b)) c.gone.ensures
     ∙ ap (outcome (Ok (accepted at.order.arrival 0 at.order.«open» 0)) []) (c.take_off.ensures.market b)
     ∙ cut_leaves (terms (g.R.Ranking.ranked k.ranking)) m c.args.arrival c.args.shares at (found.value b) r c.if-leaves.ensures
-    ∙ cells_pass (length c.args.bids.now) (length c.args.offers.now) m _ found.passes.0.0 found.passes.0.1
+    ∙ cells_pass c.args.bids.now c.args.offers.now m _ found.passes.0
 
 pub returns-clause-outcome : goal.returns-clause-outcome
 returns-clause-outcome g c = λ b.
@@ -56,7 +56,7 @@ returns-clause-outcome g c = λ b.
     ap (λ (o : Order). outcome (Ok (accepted o.arrival o.«open» n 0)) [] (held c.put_on.new.self c.put_on.new.bids c.put_on.new.offers b)) down
     ∙ ap (outcome (Ok (accepted l.order.arrival (l.order.«open» - n) n 0)) []) same
     ∙ cut_stays (terms (r k.ranking)) m c.args.arrival n l (found.value b) p c.if-leaves.ensures
-    ∙ cells_pass (length c.args.bids.now) (length c.args.offers.now) m _ found.passes.0.0 found.passes.0.1
+    ∙ cells_pass c.args.bids.now c.args.offers.now m _ found.passes.0
 
 pub returns-clause-cells : goal.returns-clause-cells
 returns-clause-cells g c =

@@ -20,7 +20,7 @@ returns-in_err-check_entry-clause-outcome g c =
     let n = own_count c.args.side k.bids k.offers k.arrivals c.args.bids.now c.args.offers.now b (omega (arith, k.within, cells)) (omega (arith, k.within, cells)) in
     let f = enter_refused (terms (g.R.Ranking.ranked k.ranking)) m c.args.side c.args.price c.args.kind c.args.shares (length c.args.report.now) _ _ (n ∙ sym c.count.ensures.value) c.in_err-check_entry.ensures.value in
     let p = err_from_is_err_and c.from_residual-in_err-check_entry.result c.from_residual-in_err-check_entry.ensures.1 in
-    rw (p.1, p.2) (sym f ∙ cells_pass (length c.args.bids.now) (length c.args.offers.now) m _ cells.0 cells.1)
+    rw (p.1, p.2) (sym f ∙ cells_pass c.args.bids.now c.args.offers.now m _ cells)
 
 pub returns-clause-outcome : goal.returns-clause-outcome
 returns-clause-outcome g c =
@@ -56,7 +56,7 @@ returns-clause-outcome g c =
     ] in
     let a = c.accept.ensures in
     let w = c.answer.ensures ∙ ap (λ o. entered o t.0.rows) c.with_open.ensures in
-    rw (w, a.1, a.2, a.3) (left ∙ cells_pass (length c.args.bids.now) (length c.args.offers.now) m _ cells.0 cells.1)
+    rw (w, a.1, a.2, a.3) (left ∙ cells_pass c.args.bids.now c.args.offers.now m _ cells)
 
 pub returns-clause-cells : goal.returns-clause-cells
 returns-clause-cells g c =
