@@ -13,7 +13,7 @@ use super::two_sided::TwoSided;
 use super::types::{Best, ByPrice, Level, Quote, Rung};
 use market::is_better;
 use market::types::Side;
-use shelf::{Precedence, Shelved, find, put, take_out};
+use shelf::{Precedence, Shelf, Shelved, find};
 use std::marker::Model;
 
 pub type Ladder = TwoSided<Rail>;
@@ -90,14 +90,18 @@ impl Levels {
         requires { length self.old < 16 }
         ensures { self.new ≡ put_in (before order.now.side) level self.old }
     {
-        self.count = put(order, &mut self.cells, self.count, level).unwrap();
+        let mut shelf = Shelf::over(&mut self.cells, self.count);
+        shelf.put(order, level).unwrap();
+        self.count = shelf.count();
     }
 
     fn take_out(&mut self, place: usize)
         requires { place < length self.old }
         ensures { self.new ≡ remove self.old place }
     {
-        self.count = take_out(&mut self.cells, self.count, place).unwrap();
+        let mut shelf = Shelf::over(&mut self.cells, self.count);
+        shelf.take_out(place).unwrap();
+        self.count = shelf.count();
     }
 }
 

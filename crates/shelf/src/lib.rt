@@ -85,6 +85,7 @@ impl<'a, T: Copy> Shelf<'a, T> {
     fn insert_at(&mut self, at: usize, thing: T)
         requires { (at ≤ self.old.count) × (self.old.count < length self.old.cells.now) }
         ensures same { self.new.cells.ghost_name ≡ self.old.cells.ghost_name }
+        ensures size { length self.new.cells.now ≡ length self.old.cells.now }
         ensures count { self.new.count ≡ self.old.count + 1 }
         ensures stands { take self.new.count self.new.cells.now ≡ insert (take self.old.count self.old.cells.now) at thing }
         ensures behind { drop self.new.count self.new.cells.now ≡ drop self.new.count self.old.cells.now }
@@ -97,6 +98,7 @@ impl<'a, T: Copy> Shelf<'a, T> {
     // Takes out what stands at a place: the things behind it move up by one.
     pub fn take_out(&mut self, at: usize) -> Result<(), Absent>
         ensures same { self.new.cells.ghost_name ≡ self.old.cells.ghost_name }
+        ensures size { length self.new.cells.now ≡ length self.old.cells.now }
         ensures ok { OnOk result ((at < self.old.count) × (self.new.count + 1 ≡ self.old.count) × (take self.new.count self.new.cells.now ≡ remove (take self.old.count self.old.cells.now) at) × (drop self.new.count self.new.cells.now ≡ drop self.new.count self.old.cells.now)) }
         ensures err { OnErr result ((self.old.count ≤ at) × (self.new.count ≡ self.old.count) × (self.new.cells.now ≡ self.old.cells.now)) }
     {
@@ -111,6 +113,7 @@ impl<'a, T: Copy> Shelf<'a, T> {
     // Puts `x` in the place of what stands there. A sorted shelf stays sorted where both have one key.
     pub fn replace(&mut self, at: usize, x: T) -> Result<(), Absent>
         ensures same { self.new.cells.ghost_name ≡ self.old.cells.ghost_name }
+        ensures size { length self.new.cells.now ≡ length self.old.cells.now }
         ensures count { self.new.count ≡ self.old.count }
         ensures ok { OnOk result ((at < self.old.count) × (take self.new.count self.new.cells.now ≡ slice_set (take self.old.count self.old.cells.now) at x) × (drop self.new.count self.new.cells.now ≡ drop self.new.count self.old.cells.now)) }
         ensures err { OnErr result ((self.old.count ≤ at) × (self.new.cells.now ≡ self.old.cells.now)) }
@@ -127,6 +130,7 @@ impl<'a, T: Shelved> Shelf<'a, T> {
     // Puts `x` before the first thing that it is ahead of.
     pub fn put<P: Precedence<T::Key>>(&mut self, order: &P, x: T) -> Result<(), Full>
         ensures same { self.new.cells.ghost_name ≡ self.old.cells.ghost_name }
+        ensures size { length self.new.cells.now ≡ length self.old.cells.now }
         ensures ok { OnOk result ((self.new.count ≡ self.old.count + 1) × (take self.new.count self.new.cells.now ≡ put_in (λ a b. P.ahead order.now (T.keyed a) (T.keyed b)) x (take self.old.count self.old.cells.now)) × (drop self.new.count self.new.cells.now ≡ drop self.new.count self.old.cells.now)) }
         ensures err { OnErr result ((self.old.count ≡ length self.old.cells.now) × (self.new.count ≡ self.old.count) × (self.new.cells.now ≡ self.old.cells.now)) }
     {
