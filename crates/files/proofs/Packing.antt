@@ -18,52 +18,43 @@ later_are (c ∷ cs) =
     by_test (eqb c 10) (λ b. cond b (begun_line cs (later_lines cs)) (later_lines cs) ≡ lines_in (drop (length (cond b [] (c ∷ word 10 cs))) cs))
     (λ e. refl) (λ e. later_are cs)
 
-first_line : (xs : List ℕ) → 0 < length xs → lines_in xs ≡ word 10 xs ∷ lines_in (drop (suc (length (word 10 xs))) xs)
+pub no_lines : (text : List ℕ) → length text ≡ 0 → lines_in text ≡ []
 unfolding lines_in
-first_line [] h = absurd (omega arith)
-first_line (c ∷ cs) h = ap (λ ls. word 10 (c ∷ cs) ∷ ls) (later_are (c ∷ cs))
+no_lines [] e = refl
+no_lines (c ∷ cs) e = absurd (omega arith)
 
-pub no_lines : (text : List ℕ) (at : ℕ) → length text ≤ at → lines_in (drop at text) ≡ []
+-- the first line, and what is left behind it
+pub first_line : (text : List ℕ) (n : ℕ) → 0 < length text → n ≡ length (word 10 text) → lines_in text ≡ take n text ∷ lines_in (drop (n + 1) text)
 unfolding lines_in
-no_lines text at h = ap lines_in (drop_all at text h)
+first_line [] n h e = absurd (omega arith)
+first_line (c ∷ cs) n h e =
+    let text = c ∷ cs in
+    let w : take n text ≡ word 10 text = ap (λ k. take k text) e ∙ word_take 10 text in
+    let k : suc (length (word 10 text)) ≡ n + 1 = omega arith in
+    ap (λ v. v ∷ later_lines text) (sym w) ∙ ap (λ ls. take n text ∷ ls) (later_are text ∙ ap (λ m. lines_in (drop m text)) k)
 
--- the line from `at` to `e`, and the lines behind it
-pub line_more : (text : List ℕ) (at e : ℕ) → at < length text → e ≡ at + length (word 10 (drop at text)) → lines_in (drop at text) ≡ take (e - at) (drop at text) ∷ lines_in (drop (e + 1) text)
-line_more text at e h k =
-    let l = length-drop at text in
-    let f = first_line (drop at text) (omega arith) in
-    let w : take (e - at) (drop at text) ≡ word 10 (drop at text) = ap (λ n. take n (drop at text)) (omega arith) ∙ word_take 10 (drop at text) in
-    let d : drop (suc (length (word 10 (drop at text)))) (drop at text) ≡ drop (e + 1) text = drop-drop (suc (length (word 10 (drop at text)))) at text ∙ ap (λ n. drop n text) (omega arith) in
-    f ∙ ap (λ v. v ∷ lines_in (drop (suc (length (word 10 (drop at text)))) (drop at text))) (sym w) ∙ ap (λ r. take (e - at) (drop at text) ∷ lines_in r) d
+-- a text has no more lines than bytes, nor more bytes in them
+begun_few : (text : List ℕ) → (length (later_lines text) ≤ length text - 1) × (length (word 10 text) + length (flat_map (λ b. b) (later_lines text)) ≤ length text)
+begun_few [] = (omega arith, omega arith)
+begun_few (c ∷ cs) =
+    by_test (eqb c 10)
+    (λ b. (length (cond b (begun_line cs (later_lines cs)) (later_lines cs)) ≤ suc (length cs) - 1) × (length (cond b [] (c ∷ word 10 cs)) + length (flat_map (λ b. b) (cond b (begun_line cs (later_lines cs)) (later_lines cs))) ≤ suc (length cs)))
+    (λ e. begun cs (begun_few cs)) (λ e. let f = begun_few cs in (omega arith, omega arith))
+  where
+    begun : (ys : List ℕ) → (length (later_lines ys) ≤ length ys - 1) × (length (word 10 ys) + length (flat_map (λ b. b) (later_lines ys)) ≤ length ys)
+        → (length (begun_line ys (later_lines ys)) ≤ suc (length ys) - 1) × (0 + length (flat_map (λ b. b) (begun_line ys (later_lines ys))) ≤ suc (length ys))
+    begun [] f = (omega arith, omega arith)
+    begun (d ∷ ds) f =
+        let j = length-append (word 10 (d ∷ ds)) (flat_map (λ b. b) (later_lines (d ∷ ds))) in
+        (omega arith, omega arith)
 
--- what the step over a line adds to the counts
-module _ (text : List ℕ) (at e : ℕ) (h : at < length text) (k : e ≡ at + length (word 10 (drop at text))) where
-  pub line_length : length (take (e - at) (drop at text)) ≡ e - at
-  line_length =
-      let l = length-drop at text in
-      let w = word_le 10 (drop at text) in
-      length-take-le (e - at) (drop at text) (omega arith)
-
-  pub lines_fewer : length (lines_in (drop at text)) ≡ suc (length (lines_in (drop (e + 1) text)))
-  lines_fewer = ap length (line_more text at e h k)
-
-  pub bytes_fewer : length (unparted (drop at text)) ≡ (e - at) + length (unparted (drop (e + 1) text))
-  bytes_fewer =
-      let m = ap (λ ls. length (flat_map (λ b. b) ls)) (line_more text at e h k) in
-      let j = length-append (take (e - at) (drop at text)) (unparted (drop (e + 1) text)) in
-      omega (arith, m, j, line_length)
-
-  pub joined_fewer : unparted (drop at text) ≡ take (e - at) (drop at text) ++ unparted (drop (e + 1) text)
-  joined_fewer = ap (flat_map (λ b. b)) (line_more text at e h k)
-
-  pub contents_fewer : (next : ℕ) → contents next (lines_in (drop at text)) ≡ short next ++ short (e - at) ++ contents (next + (e - at)) (lines_in (drop (e + 1) text))
-  contents_fewer next = ap (contents next) (line_more text at e h k) ∙ ap (λ n. short next ++ short n ++ contents (next + n) (lines_in (drop (e + 1) text))) line_length
-
-pub no_lines_length : (text : List ℕ) (at : ℕ) → length text ≤ at → length (lines_in (drop at text)) ≡ 0
-no_lines_length text at h = ap length (no_lines text at h)
-
-pub no_bytes : (text : List ℕ) (at : ℕ) → length text ≤ at → length (unparted (drop at text)) ≡ 0
-no_bytes text at h = ap (λ ls. length (flat_map (λ b. b) ls)) (no_lines text at h)
+pub lines_few : (text : List ℕ) → (length (lines_in text) ≤ length text) × (length (unparted text) ≤ length text)
+unfolding lines_in
+lines_few [] = (omega arith, omega arith)
+lines_few (c ∷ cs) =
+    let f = begun_few (c ∷ cs) in
+    let j = length-append (word 10 (c ∷ cs)) (flat_map (λ b. b) (later_lines (c ∷ cs))) in
+    (omega arith, omega arith)
 
 -- the size of a file
 pub length_layout : (ls : List (List ℕ)) → length (layout ls) ≡ 2 + 4 * length ls + length (flat_map (λ b. b) ls)
@@ -72,12 +63,6 @@ length_layout ls =
     let c = length_contents (2 + 4 * length ls) ls in
     let a = length-append (contents (2 + 4 * length ls) ls) (flat_map (λ b. b) ls) in
     omega arith
-
-pub nothing_left : (text : List ℕ) (at : ℕ) → length text ≤ at → unparted (drop at text) ≡ []
-nothing_left text at h = ap (flat_map (λ b. b)) (no_lines text at h)
-
-pub no_contents : (text : List ℕ) (at next : ℕ) → length text ≤ at → contents next (lines_in (drop at text)) ≡ []
-no_contents text at next h = ap (contents next) (no_lines text at h)
 
 -- the answers, by the size of the file
 pub packed_large : (ls : List (List ℕ)) (room : ℕ) → length ls ≤ 512 → 65535 < length (layout ls) → packed ls room ≡ Err TooLarge

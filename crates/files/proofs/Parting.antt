@@ -1,13 +1,14 @@
 -- The fields of a body from a place on, and what the readers of a body's fields say of them. Assumes nothing.
-use Rattle.std.proofs.Common.{◌≡◌, ℕ, ◌+◌, ◌<◌, ◌≤◌, cond, ltb, leb, List, [], ◌∷◌, length, drop, Some, None, Ok, Err, Option, sym, refl, ap, ◌∙◌, ⊎_elim, zero-le, arith}
+use Rattle.std.proofs.Common.{◌≡◌, ℕ, ◌+◌, ◌<◌, ◌≤◌, cond, ltb, leb, List, [], ◌∷◌, length, take, drop, Some, None, Ok, Err, Option, sym, refl, ap, ◌∙◌, ⊎_elim, zero-le, arith}
+use Rattle.std.specs.Bool.{then_some}
 use Rattle.std.proofs.lemmas.List.{length-drop}
 use Rattle.std.proofs.lemmas.Bool.{cond-true, cond-false, le-leb, lt-leb, lt-ltb, le-ltb, leb-true, leb-false, cases_eq}
 use Rattle.shelf.specs.Standing.{nth}
 use Rattle.files.specs.declared.types.Letter.{Letter}
 use Rattle.files.specs.declared.types.Letter.TheVariants as letter
 use Rattle.files.specs.Fields.{word, fields, number, first_letter, kind_letter, side_letter}
-use Rattle.files.specs.Lines.{New, and_then, said, ends_at, label_in, kind_from, new_of, line_from, read_words, read_line, left, past}
-use Rattle.files.proofs.Words.{by_test, word_le, behind_last, behind, within_word}
+use Rattle.files.specs.Lines.{New, and_then, said, ends_at, only_at, label_in, kind_from, new_of, line_from, read_words, read_line, left, past}
+use Rattle.files.proofs.Words.{by_test, word_le, word_take, behind_last, behind, within_word}
 
 pub left_none : (xs : List ℕ) (at : ℕ) → length xs < at → left at xs ≡ []
 unfolding left
@@ -26,42 +27,23 @@ left_more xs at e h w =
     (λ (k : e ≡ length xs). behind_last xs at e h w k ∙ sym (left_none xs (e + 1) (omega arith)))
     (λ (k : e ≡ length xs → ⊥). behind xs at e h w k ∙ sym (left_some xs (e + 1) (within_word xs at e h w k))) (cases_eq e (length xs)))
 
+-- the field at a place is the first word of what stands from there on
+pub field_next : (xs rest : List ℕ) (at n : ℕ) → at ≤ length xs → rest ≡ drop at xs → n ≡ length (word 32 rest)
+    → (left at xs ≡ take n rest ∷ left (at + n + 1) xs) × (at + length (take n rest) + 1 ≡ at + n + 1) × (at + n + 1 ≤ length xs + 1)
+field_next xs rest at n h r e =
+    let w : take n rest ≡ word 32 (drop at xs) = ap (λ k. take k rest) e ∙ word_take 32 rest ∙ ap (word 32) r in
+    let k : n ≡ length (word 32 (drop at xs)) = e ∙ ap (λ ys. length (word 32 ys)) r in
+    let m = left_more xs at (at + n) h (ap (λ j. at + j) k) in
+    let l = word_le 32 (drop at xs) in
+    let d = length-drop at xs in
+    (m ∙ ap (λ ys. ys ∷ left (at + n + 1) xs) (sym w), omega (arith, ap length w), omega arith)
+
 pub left_ends : (xs : List ℕ) (at : ℕ) → ltb (length xs) at ≡ ends_at 0 (left at xs)
 unfolding left
 left_ends xs at =
     by_test (leb at (length xs)) (λ b. ltb (length xs) at ≡ ends_at 0 (cond b (fields (drop at xs)) []))
     (λ e. le-ltb (length xs) at (leb-true at (length xs) e)) (λ e. lt-ltb (length xs) at (leb-false at (length xs) e))
 
-pub none_through : {A B : Type 0} → (o : Option A) (f : A → Option B) → ((a : A) → f a ≡ None) → and_then o f ≡ None
-none_through None f h = refl
-none_through (Some a) f h = h a
-
-pub none_first : {A B : Type 0} → (o : Option A) (f : A → Option B) → o ≡ None → and_then o f ≡ None
-none_first o f e = ap (λ x. and_then x f) e
-
-pub no_shares : (ws : List (List ℕ)) → said number 5 ws ≡ None → new_of ws ≡ None
-no_shares ws e =
-    none_through (label_in (nth 1 ws)) _ (λ l.
-    none_through (and_then (said kind_letter 2 ws) (kind_from ws)) _ (λ k.
-    none_through (said side_letter 3 ws) _ (λ s.
-    none_through (said number 4 ws) _ (λ p. none_first (said number 5 ws) (λ n. Some (New l s p k n)) e))))
-
--- no line asks for its first letter again
-pub line_behind : (w : List ℕ) (ws : List (List ℕ)) (l : Letter) → line_from (w ∷ ws) l ≡ line_from (past 1 ws) l
-line_behind w ws letter.New = refl
-line_behind w ws letter.Cut = refl
-line_behind w ws letter.Cancel = refl
-line_behind w ws letter.Post = refl
-
-pub line_begun : (xs w : List ℕ) (ws : List (List ℕ)) (l : Letter) → left 0 xs ≡ w ∷ ws → first_letter w ≡ Ok l → line_from (past 1 ws) l ≡ read_line xs
-unfolding read_line
-line_begun xs w ws l e f =
-    let a : read_words (fields xs) ≡ read_words (w ∷ ws) = ap read_words (sym (left_some xs 0 zero-le) ∙ e) in
-    let b : read_words (w ∷ ws) ≡ line_from (w ∷ ws) l = ap (λ r. and_then (elim r [ Ok a ↦ Some a | Err x ↦ None ]) (line_from (w ∷ ws))) f in
-    sym (a ∙ b ∙ line_behind w ws l)
-
-pub no_line : (xs : List ℕ) → said first_letter 0 (left 0 xs) ≡ None → read_line xs ≡ None
-unfolding read_line
-no_line xs e =
-    let a : read_words (fields xs) ≡ read_words (left 0 xs) = ap read_words (sym (left_some xs 0 zero-le)) in
-    a ∙ rw e refl
+-- a value, where no field is left
+pub at_end : {A : Type 0} → (xs : List ℕ) (at : ℕ) (x : A) → then_some (ltb (length xs) at) x ≡ only_at 0 (left at xs) x
+at_end xs at x = by_test (ltb (length xs) at) (λ b. then_some b x ≡ cond b (Some x) None) (λ e. refl) (λ e. refl) ∙ ap (λ b. cond b (Some x) None) (left_ends xs at)

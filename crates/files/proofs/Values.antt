@@ -10,15 +10,13 @@ use Rattle.rules.specs.declared.types.Routing.{Routing}
 use Rattle.rules.specs.declared.types.Routing.TheVariants.{Type1, Type2}
 use Rattle.rules.specs.declared.types.Mark.{Mark}
 use Rattle.rules.specs.declared.types.Mark.TheVariants as mark
-use Rattle.files.specs.declared.types.Alphabet.{Alphabet}
-use Rattle.files.specs.declared.types.Alphabet.TheVariants.{Digits, LabelLetters}
 use Rattle.files.specs.declared.types.Fault.{Fault}
 use Rattle.files.specs.declared.types.Fault.TheVariants.{TooLong, NotANumber}
 use Rattle.files.specs.declared.types.Letter.{Letter}
 use Rattle.files.specs.declared.types.Letter.TheVariants as letter
 use Rattle.files.specs.declared.types.KindLetter.{KindLetter}
 use Rattle.files.specs.declared.types.KindLetter.TheVariants as kind
-use Rattle.files.specs.Fields.{every, belongs, figure, number, is_label, first_letter, kind_letter, side_letter, routing_digit, mark_letter}
+use Rattle.files.specs.Fields.{Alphabet, Digits, LabelLetters, every, belongs, figure, number, is_label, first_letter, kind_letter, side_letter, routing_digit, mark_letter}
 use Rattle.files.specs.Written.{side_bytes, routing_bytes, mark_bytes, Small}
 use Rattle.files.proofs.Spacing.{Unspaced}
 

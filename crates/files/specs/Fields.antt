@@ -1,14 +1,13 @@
 -- The fields of a body: where they part, what each may be, and the first that is malformed.
 -- Rests on bytes as numbers, and on the enums that a field may stand for.
 use Rattle.std.specs.Prelude.{ℕ, ◌+◌, ◌-◌, ◌*◌, Bool, true, false, cond, ◌&&◌, ◌||◌, List, [], ◌∷◌, length, drop, Some, None, Ok, Err, Option, Result, ◌==◌, nat_le, nat_lt, slice_index}
+use Rattle.std.specs.List.{list_all}
 use Rattle.market.specs.declared.types.Side.{Side}
 use Rattle.market.specs.declared.types.Side.TheVariants.{Buy, Sell}
 use Rattle.rules.specs.declared.types.Routing.{Routing}
 use Rattle.rules.specs.declared.types.Routing.TheVariants.{Type1, Type2}
 use Rattle.rules.specs.declared.types.Mark.{Mark}
 use Rattle.rules.specs.declared.types.Mark.TheVariants as mark
-use Rattle.files.specs.declared.types.Alphabet.{Alphabet}
-use Rattle.files.specs.declared.types.Alphabet.TheVariants.{Digits, LabelLetters}
 use Rattle.files.specs.declared.types.Fault.{Fault}
 use Rattle.files.specs.declared.types.Fault.TheVariants.{Missing, Surplus, TooLong, NotANumber, UnknownLetter, BadLabel}
 use Rattle.files.specs.declared.types.Letter.{Letter}
@@ -32,13 +31,17 @@ further m (c ∷ cs) = cond (c == m) (word m cs ∷ further m cs) (further m cs)
 abbrev pub fields : List ℕ → List (List ℕ)
 fields body = word 32 body ∷ further 32 body
 
+-- the bytes that numbers and labels are made of
+pub data Alphabet : Type 0 where
+  Digits : Alphabet
+  LabelLetters : Alphabet
+
 abbrev pub belongs : Alphabet → ℕ → Bool
 belongs Digits c = nat_le 48 c && nat_le c 57
 belongs LabelLetters c = (nat_le 65 c && nat_le c 90) || (nat_le 48 c && nat_le c 57)
 
 abbrev pub every : (ℕ → Bool) → List ℕ → Bool
-every p [] = true
-every p (c ∷ cs) = p c && every p cs
+every p w = list_all p w
 
 -- the number that digits write, after n before them
 abbrev pub figure : ℕ → List ℕ → ℕ

@@ -4,3 +4,4 @@ pub mod Files
 pub mod Written
 pub mod Packing
 pub mod Faults
+pub mod Cursors

@@ -1,165 +1,64 @@
-// What a body says, read field by field. A reader is handed the place where its field begins, and
-// answers what the field says with the place where the next one begins.
-ghost use Rattle.std.specs.Prelude.{◌≡◌, ◌+◌, ◌≤◌, true, [], ◌∷◌, length, Some, None, Ok, Err};
+// What a body says, read field by field.
+ghost use Rattle.std.specs.Prelude.{◌≡◌, ◌∷◌, true, Some, None};
 ghost use Rattle.shelf.specs.Standing.{nth};
-ghost use Rattle.files.specs.Fields.{number, is_label, first_letter, kind_letter, side_letter, routing_digit, mark_letter};
-ghost use Rattle.files.specs.Lines.{line_in, said, ends_at, label_in, kind_from, ilo_of, new_of, cut_of, cancel_of, post_of, read_line, only_at, left, past, Says};
+ghost use Rattle.files.specs.Cursors.{left_in};
+ghost use Rattle.files.specs.Fields.{is_label};
+ghost use Rattle.files.specs.Lines.{line_in, said, label_in, kind_from, new_of, cut_of, cancel_of, post_of, read_line, only_at, past, Says};
 
-use crate::fields::{
-    is_a_label, read_first_letter, read_kind_letter, read_mark, read_number, read_routing,
-    read_side, word_end,
-};
-use crate::types::{Body, Fault, KindLetter, Letter};
+use crate::cursors::Fields;
+use crate::fields::{Field, is_a_label};
+use crate::types::{Body, KindLetter, Letter};
 use market::types::Side;
-use rules::types::{Kind, Mark, Routing};
+use rules::types::Kind;
 
-// What a field says, and the place behind the space that ends it.
-#[derive(Clone, Copy)]
-struct Said<T> {
-    value: T,
-    next: usize,
-}
-
-// The field that begins at a place; past the body's end none does.
-fn field_at(body: &[u8], at: usize) -> Option<&[u8]>
-    ensures { elim result [ None ↦ left at body.now ≡ [] | Some w ↦ (left at body.now ≡ w.now ∷ left (at + length w.now + 1) body.now) × (at + length w.now ≤ length body.now) ] }
-{
-    if at > body.len() {
-        return None;
+impl<'a> Fields<'a> {
+    // What the next field says.
+    fn read<T: Field>(&mut self) -> Option<T>
+        ensures { elim result [ None ↦ said T.says 0 (left_in self.old) ≡ None | Some v ↦ Says T.says (left_in self.old) v (left_in self.new) ] }
+    {
+        let (_, field) = self.next()?;
+        T::read(field).ok()
     }
-    let end = word_end(body, b' ', at);
-    Some(&body[at..end])
-}
 
-// What was read, where it is well formed, with the place of the next field.
-fn with_next<T: Drop>(read: Result<T, Fault>, next: usize) -> Option<Said<T>>
-    ensures { elim result [ None ↦ ((e : Fault) × (read ≡ Err e)) | Some t ↦ (read ≡ Ok t.value) × (t.next ≡ next) ] }
-{
-    match read {
-        Ok(value) => Some(Said { value, next }),
-        Err(_) => None,
+    // The next field, where it is a label.
+    fn label(&mut self) -> Option<&'a [u8]>
+        ensures { elim result [ None ↦ label_in (nth 0 (left_in self.old)) ≡ None | Some w ↦ (left_in self.old ≡ w.now ∷ left_in self.new) × (is_label w.now ≡ true) ] }
+    {
+        let (_, field) = self.next()?;
+        is_a_label(field).then_some(field)
     }
 }
 
-fn number_at(body: &[u8], at: usize) -> Option<Said<u32>>
-    ensures { elim result [ None ↦ said number 0 (left at body.now) ≡ None | Some t ↦ Says number (left at body.now) t.value (left t.next body.now) ] }
+fn ilo(mut fields: Fields<'_>) -> Option<Kind>
+    ensures { result ≡ kind_from (past 6 (left_in fields.entry)) KindLetter.Ilo }
 {
-    let Some(field) = field_at(body, at) else {
-        return None;
-    };
-    with_next(read_number(field), at + field.len() + 1)
-}
-
-fn side_at(body: &[u8], at: usize) -> Option<Said<Side>>
-    ensures { elim result [ None ↦ said side_letter 0 (left at body.now) ≡ None | Some t ↦ Says side_letter (left at body.now) t.value (left t.next body.now) ] }
-{
-    let Some(field) = field_at(body, at) else {
-        return None;
-    };
-    with_next(read_side(field), at + field.len() + 1)
-}
-
-fn first_letter(body: &[u8], at: usize) -> Option<Said<Letter>>
-    ensures { elim result [ None ↦ said first_letter 0 (left at body.now) ≡ None | Some t ↦ Says first_letter (left at body.now) t.value (left t.next body.now) ] }
-{
-    let Some(field) = field_at(body, at) else {
-        return None;
-    };
-    with_next(read_first_letter(field), at + field.len() + 1)
-}
-
-fn kind_letter(body: &[u8], at: usize) -> Option<Said<KindLetter>>
-    ensures { elim result [ None ↦ said kind_letter 0 (left at body.now) ≡ None | Some t ↦ Says kind_letter (left at body.now) t.value (left t.next body.now) ] }
-{
-    let Some(field) = field_at(body, at) else {
-        return None;
-    };
-    with_next(read_kind_letter(field), at + field.len() + 1)
-}
-
-fn routing_at(body: &[u8], at: usize) -> Option<Said<Routing>>
-    ensures { elim result [ None ↦ said routing_digit 0 (left at body.now) ≡ None | Some t ↦ Says routing_digit (left at body.now) t.value (left t.next body.now) ] }
-{
-    let Some(field) = field_at(body, at) else {
-        return None;
-    };
-    with_next(read_routing(field), at + field.len() + 1)
-}
-
-fn mark_at(body: &[u8], at: usize) -> Option<Said<Mark>>
-    ensures { elim result [ None ↦ said mark_letter 0 (left at body.now) ≡ None | Some t ↦ Says mark_letter (left at body.now) t.value (left t.next body.now) ] }
-{
-    let Some(field) = field_at(body, at) else {
-        return None;
-    };
-    with_next(read_mark(field), at + field.len() + 1)
-}
-
-fn label_at(body: &[u8], at: usize) -> Option<&[u8]>
-    ensures { elim result [ None ↦ label_in (nth 0 (left at body.now)) ≡ None | Some w ↦ (left at body.now ≡ w.now ∷ left (at + length w.now + 1) body.now) × (is_label w.now ≡ true) × (at + length w.now ≤ length body.now) ] }
-{
-    let Some(field) = field_at(body, at) else {
-        return None;
-    };
-    if is_a_label(field) { Some(field) } else { None }
-}
-
-// Whether no field begins at a place.
-fn ends_at(body: &[u8], at: usize) -> bool
-    ensures { result ≡ ends_at 0 (left at body.now) }
-{
-    at > body.len()
-}
-
-fn plain(body: &[u8], at: usize, kind: Kind) -> Option<Kind>
-    ensures { result ≡ only_at 0 (left at body.now) kind }
-{
-    if ends_at(body, at) { Some(kind) } else { None }
-}
-
-fn ilo(body: &[u8], at: usize) -> Option<Kind>
-    ensures { result ≡ ilo_of (past 6 (left at body.now)) }
-{
-    let Said {
-        value: routing,
-        next,
-    } = routing_at(body, at)?;
-    let Said { value: mtv, next } = number_at(body, next)?;
-    let Said { value: mark, next } = mark_at(body, next)?;
-    if ends_at(body, next) {
-        Some(Kind::Ilo { routing, mtv, mark })
-    } else {
-        None
-    }
+    let routing = fields.read()?;
+    let mtv = fields.read()?;
+    let mark = fields.read()?;
+    fields.at_end(Kind::Ilo { routing, mtv, mark })
 }
 
 // The kind of a letter, with the fields of an ILO that stand behind the shares.
-fn kind_of(letter: KindLetter, body: &[u8], at: usize) -> Option<Kind>
-    ensures { result ≡ kind_from (past 6 (left at body.now)) letter }
+fn kind_of(letter: KindLetter, fields: Fields<'_>) -> Option<Kind>
+    ensures { result ≡ kind_from (past 6 (left_in fields.entry)) letter }
 {
     match letter {
-        KindLetter::Displayed => plain(body, at, Kind::Displayed),
-        KindLetter::Dark => plain(body, at, Kind::Dark),
-        KindLetter::Olo => plain(body, at, Kind::Olo),
-        KindLetter::Ilo => ilo(body, at),
+        KindLetter::Displayed => fields.at_end(Kind::Displayed),
+        KindLetter::Dark => fields.at_end(Kind::Dark),
+        KindLetter::Olo => fields.at_end(Kind::Olo),
+        KindLetter::Ilo => ilo(fields),
     }
 }
 
-fn new_order(body: &[u8], at: usize) -> Option<Body<'_>>
-    ensures { line_in result ≡ new_of (past 1 (left at body.now)) }
+fn new_order(mut fields: Fields<'_>) -> Option<Body<'_>>
+    ensures { line_in result ≡ new_of (past 1 (left_in fields.entry)) }
 {
-    let label = label_at(body, at)?;
-    let Said {
-        value: letter,
-        next,
-    } = kind_letter(body, at + label.len() + 1)?;
-    let Said { value: side, next } = side_at(body, next)?;
-    let Said { value: price, next } = number_at(body, next)?;
-    let Said {
-        value: shares,
-        next,
-    } = number_at(body, next)?;
-    let kind = kind_of(letter, body, next)?;
+    let label = fields.label()?;
+    let letter = fields.read()?;
+    let side = fields.read()?;
+    let price = fields.read()?;
+    let shares = fields.read()?;
+    let kind = kind_of(letter, fields)?;
     Some(Body::New {
         label,
         side,
@@ -169,74 +68,46 @@ fn new_order(body: &[u8], at: usize) -> Option<Body<'_>>
     })
 }
 
-fn cut(body: &[u8], at: usize) -> Option<Body<'_>>
-    ensures { line_in result ≡ cut_of (past 1 (left at body.now)) }
+fn cut(mut fields: Fields<'_>) -> Option<Body<'_>>
+    ensures { line_in result ≡ cut_of (past 1 (left_in fields.entry)) }
 {
-    let Said {
-        value: arrival,
-        next,
-    } = number_at(body, at)?;
-    let Said {
-        value: shares,
-        next,
-    } = number_at(body, next)?;
-    if ends_at(body, next) {
-        Some(Body::Cut { arrival, shares })
-    } else {
-        None
-    }
+    let arrival = fields.read()?;
+    let shares = fields.read()?;
+    fields.at_end(Body::Cut { arrival, shares })
 }
 
-fn cancel(body: &[u8], at: usize) -> Option<Body<'_>>
-    ensures { line_in result ≡ cancel_of (past 1 (left at body.now)) }
+fn cancel(mut fields: Fields<'_>) -> Option<Body<'_>>
+    ensures { line_in result ≡ cancel_of (past 1 (left_in fields.entry)) }
 {
-    let Said {
-        value: arrival,
-        next,
-    } = number_at(body, at)?;
-    if ends_at(body, next) {
-        Some(Body::Cancel { arrival })
-    } else {
-        None
-    }
+    let arrival = fields.read()?;
+    fields.at_end(Body::Cancel { arrival })
 }
 
-fn post(body: &[u8], at: usize) -> Option<Body<'_>>
-    ensures { line_in result ≡ post_of (past 1 (left at body.now)) }
+fn post(mut fields: Fields<'_>) -> Option<Body<'_>>
+    ensures { line_in result ≡ post_of (past 1 (left_in fields.entry)) }
 {
-    let Said {
-        value: market,
-        next,
-    } = number_at(body, at)?;
-    let Said { value: side, next } = side_at(body, next)?;
-    let Said { value: price, next } = number_at(body, next)?;
-    let Said {
-        value: shares,
-        next,
-    } = number_at(body, next)?;
-    if ends_at(body, next) {
-        Some(Body::Post {
-            market,
-            side,
-            price,
-            shares,
-        })
-    } else {
-        None
-    }
+    let market = fields.read()?;
+    let side = fields.read()?;
+    let price = fields.read()?;
+    let shares = fields.read()?;
+    fields.at_end(Body::Post {
+        market,
+        side,
+        price,
+        shares,
+    })
 }
 
+#[tactic(auto, unfolding(crate::specs::Lines::read_line))]
 pub fn read_body(body: &[u8]) -> Option<Body<'_>>
     ensures { line_in result ≡ read_line body.now }
 {
-    let Said {
-        value: letter,
-        next,
-    } = first_letter(body, 0)?;
+    let mut fields = Fields::of(body);
+    let letter = fields.read()?;
     match letter {
-        Letter::New => new_order(body, next),
-        Letter::Cut => cut(body, next),
-        Letter::Cancel => cancel(body, next),
-        Letter::Post => post(body, next),
+        Letter::New => new_order(fields),
+        Letter::Cut => cut(fields),
+        Letter::Cancel => cancel(fields),
+        Letter::Post => post(fields),
     }
 }

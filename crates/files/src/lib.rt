@@ -3,6 +3,7 @@
 
 mod bodies;
 mod contents;
+mod cursors;
 mod fields;
 pub mod input;
 pub mod pack;

@@ -3,7 +3,7 @@ ghost use Rattle.std.specs.Prelude.{◌≡◌, ◌+◌, ◌*◌, ◌<◌, ◌≤
 ghost use Rattle.files.specs.Written.{short, contents, layout};
 ghost use Rattle.files.specs.Packing.{lines_in, unparted, packed, output_after};
 
-use crate::fields::word_end;
+use crate::cursors::Lines;
 use crate::types::PackError;
 
 // How many lines a text has, and how many bytes without their line feeds.
@@ -13,55 +13,51 @@ struct Extent {
     bytes: usize,
 }
 
+#[tactic(auto, using(crate::proofs::Packing::lines_few))]
 fn measure(text: &[u8]) -> Extent
-    ensures { (result.lines ≡ length (lines_in text.now)) × ((result.bytes ≡ length (unparted text.now)) × (result.bytes ≤ length text.now)) }
+    ensures lines { result.lines ≡ length (lines_in text.now) }
+    ensures bytes { result.bytes ≡ length (unparted text.now) }
+    ensures within { result.bytes ≤ length text.now }
 {
-    let mut lines = 0;
-    let mut bytes = 0;
-    let mut at = 0;
-    while at < text.len() {
-        let end = word_end(text, b'\n', at);
-        lines += 1;
-        bytes += end - at;
-        at = end + 1;
+    let mut extent = Extent { lines: 0, bytes: 0 };
+    for line in Lines::of(text) {
+        extent.lines += 1;
+        extent.bytes += line.len();
     }
-    Extent { lines, bytes }
+    extent
+}
+
+fn write_at(out: &mut [u8], at: usize, bytes: &[u8])
+    requires { at + length bytes.now ≤ length out.old }
+    ensures stands { take (at + length bytes.now) out.new ≡ take at out.old ++ bytes.now }
+    ensures behind { drop (at + length bytes.now) out.new ≡ drop (at + length bytes.now) out.old }
+{
+    out[at..at + bytes.len()].copy_from_slice(bytes);
 }
 
 // Writes a number of 16 bits, low byte first.
-fn write_short(out: &mut [u8], at: usize, n: usize)
-    requires { (at + 1 < length out.old) × (n ≤ 65535) }
+fn write_short(out: &mut [u8], at: usize, n: u16)
+    requires { at + 1 < length out.old }
     ensures stands { take (at + 2) out.new ≡ take at out.old ++ short n }
     ensures behind { drop (at + 2) out.new ≡ drop (at + 2) out.old }
 {
-    out[at] = (n % 256) as u8;
-    out[at + 1] = (n / 256) as u8;
-}
-
-fn write_line(out: &mut [u8], at: usize, line: &[u8])
-    requires { at + length line.now ≤ length out.old }
-    ensures stands { take (at + length line.now) out.new ≡ take at out.old ++ line.now }
-    ensures behind { drop (at + length line.now) out.new ≡ drop (at + length line.now) out.old }
-{
-    out[at..at + line.len()].copy_from_slice(line);
+    write_at(out, at, &n.to_le_bytes());
 }
 
 // Writes the entry of each line, the first of which begins at `first`.
 fn write_contents(out: &mut [u8], text: &[u8], first: usize)
-    requires { (2 + 4 * length (lines_in text.now) ≤ length out.old) × (first + length (unparted text.now) ≤ 65535) }
+    requires room { 2 + 4 * length (lines_in text.now) ≤ length out.old }
+    requires within { first + length (unparted text.now) ≤ 65535 }
     ensures stands { take (2 + 4 * length (lines_in text.now)) out.new ≡ take 2 out.old ++ contents first (lines_in text.now) }
     ensures behind { drop (2 + 4 * length (lines_in text.now)) out.new ≡ drop (2 + 4 * length (lines_in text.now)) out.old }
 {
-    let mut at = 0;
     let mut place = 2;
     let mut next = first;
-    while at < text.len() {
-        let end = word_end(text, b'\n', at);
-        write_short(out, place, next);
-        write_short(out, place + 2, end - at);
+    for line in Lines::of(text) {
+        write_short(out, place, next as u16);
+        write_short(out, place + 2, line.len() as u16);
         place += 4;
-        next += end - at;
-        at = end + 1;
+        next += line.len();
     }
 }
 
@@ -71,13 +67,10 @@ fn write_bodies(out: &mut [u8], text: &[u8], first: usize)
     ensures stands { take (first + length (unparted text.now)) out.new ≡ take first out.old ++ unparted text.now }
     ensures behind { drop (first + length (unparted text.now)) out.new ≡ drop (first + length (unparted text.now)) out.old }
 {
-    let mut at = 0;
     let mut next = first;
-    while at < text.len() {
-        let end = word_end(text, b'\n', at);
-        write_line(out, next, &text[at..end]);
-        next += end - at;
-        at = end + 1;
+    for line in Lines::of(text) {
+        write_at(out, next, line);
+        next += line.len();
     }
 }
 
@@ -100,7 +93,7 @@ pub fn pack(text: &[u8], out: &mut [u8]) -> Result<usize, PackError>
     if out.len() < size {
         return Err(PackError::NoRoom);
     }
-    write_short(out, 0, extent.lines);
+    write_short(out, 0, extent.lines as u16);
     write_contents(out, text, first);
     write_bodies(out, text, first);
     Ok(size)

@@ -1,5 +1,5 @@
 // Reading a session file, body by body, and what is wrong with one that is refused.
-ghost use Rattle.std.specs.Prelude.{◌≡◌, ◌≤◌, List, Ok};
+ghost use Rattle.std.specs.Prelude.{◌≡◌, List, Ok};
 ghost use Rattle.shelf.specs.Standing.{nth};
 ghost use Rattle.files.specs.Faults.{RefusedFirst};
 ghost use Rattle.files.specs.Files.{checked, line_at, count_of, refused, wrong_body, read_file, counted};
@@ -8,40 +8,34 @@ ghost use Rattle.files.specs.Written.{file_bytes, Fitting, Answered, ReadsBack, 
 
 use crate::bodies::read_body;
 use crate::contents::{body, count, is_wrong_size, offset, wrong_entry};
-use crate::fields::{is_end, next_wanted, word_end};
+use crate::cursors::Fields;
+use crate::fields::next_wanted;
 use crate::types::{Body, Wanted};
 use market::types::Refusal;
 
 // Reads every body, up to the first malformed field.
-fn check_bodies(file: &[u8], count: usize) -> Result<usize, Refusal>
-    requires { count ≤ 65535 }
+fn check_bodies(file: &[u8], count: u16) -> Result<usize, Refusal>
     ensures { result ≡ refused count (wrong_body file.now count 0) }
 {
-    let (index, place) = 'bodies: {
+    let (index, at) = 'bodies: {
         for index in 0..count {
             let body = body(file, index);
             let mut wanted = Wanted::First;
-            let mut at = 0;
-            loop {
-                let end = word_end(body, b' ', at);
-                match next_wanted(wanted, &body[at..end], end == body.len()) {
+            for (at, field) in Fields::of(body) {
+                match next_wanted(wanted, field, at + field.len() == body.len()) {
                     Ok(next) => wanted = next,
-                    Err(_) => break 'bodies (index, offset(file, index) + at),
+                    Err(_) => break 'bodies (index, at),
                 }
-                if end == body.len() {
-                    break;
-                }
-                at = end + 1;
             }
-            if !is_end(wanted) {
-                break 'bodies (index, offset(file, index) + body.len());
+            if wanted != Wanted::End {
+                break 'bodies (index, body.len());
             }
         }
-        return Ok(count);
+        return Ok(usize::from(count));
     };
     Err(Refusal::Body {
-        index: index as u32,
-        place: place as u32,
+        index: u32::from(index),
+        place: u32::from(offset(file, index)) + at as u32,
     })
 }
 
@@ -55,9 +49,10 @@ pub fn check_file(file: &[u8]) -> Result<usize, Refusal>
         return Err(Refusal::FileSize);
     }
     if let Some(index) = wrong_entry(file) {
+        let index = u32::from(index);
         return Err(Refusal::Contents {
-            index: index as u32,
-            place: (2 + 4 * index) as u32,
+            index,
+            place: 2 + 4 * index,
         });
     }
     check_bodies(file, count(file))
@@ -69,10 +64,10 @@ pub fn body_at(file: &[u8], index: usize) -> Option<Body<'_>>
     ensures written { (lines : List Line) → Fitting lines → file.now ≡ file_bytes lines → line_in result ≡ nth index lines }
     ensures read { (lines : List Line) → read_file file.now ≡ Ok lines → line_in result ≡ nth index lines }
 {
-    if index >= count(file) {
+    if index >= usize::from(count(file)) {
         return None;
     }
-    read_body(body(file, index))
+    read_body(body(file, index as u16))
 }
 
 // What reading has to do with writing: lines that fit, written out, read back as themselves, no

@@ -83,13 +83,6 @@ pub enum Wanted {
     End,
 }
 
-// The bytes that numbers and labels are made of.
-#[derive(Clone, Copy, PartialEq, Eq, Debug)]
-pub enum Alphabet {
-    Digits,
-    LabelLetters,
-}
-
 // Why lines of text are not packed into a session file.
 #[derive(Clone, Copy, PartialEq, Eq, Debug)]
 pub enum PackError {

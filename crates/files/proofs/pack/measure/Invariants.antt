@@ -1,13 +1,14 @@
-use Rattle.std.proofs.Common.{◌≡◌, ◌+◌, ◌-◌, ◌≤◌, length, drop}
+use Rattle.std.proofs.Common.{◌≡◌, ◌+◌, length}
+use Rattle.std.specs.List.{flat_map}
+use Rattle.files.specs.Cursors.{lines_left}
 use Rattle.files.specs.Packing.{lines_in, unparted}
 use Rattle.files.proofs.pack.measure.Given as goal
 
 -- what was counted, and what is left, make the whole
-abbrev pub invariant-loop-at : goal.invariant-loop-at
-invariant-loop-at l =
-    (l.lines + length (lines_in (drop l.at l.text)) ≡ length (lines_in l.text))
-    × (l.bytes + length (unparted (drop l.at l.text)) ≡ length (unparted l.text))
-    × (l.lines ≤ l.at) × (l.bytes ≤ l.at) × (l.at ≤ length l.text + 1) × (l.bytes ≤ length l.text)
-
-abbrev pub decreases-loop-at : goal.decreases-loop-at
-decreases-loop-at l = length l.text + 1 - l.at
+abbrev pub invariant-loop-line : goal.invariant-loop-line
+invariant-loop-line l = record {
+  can_next : (goal.iterator-loop-line).can_next l.line-iterator;
+  is_finite : (goal.iterator-loop-line).is_finite l.line-iterator;
+  lines : l.extent.lines + length (lines_left l.line-iterator) ≡ length (lines_in l.text);
+  bytes : l.extent.bytes + length (flat_map (λ b. b) (lines_left l.line-iterator)) ≡ length (unparted l.text);
+}

@@ -1,13 +1,17 @@
-use Rattle.std.proofs.Common.{◌≡◌, ◌+◌, ◌-◌, ◌++◌, length, take, drop}
+use Rattle.std.proofs.Common.{◌≡◌, ◌+◌, ◌++◌, length, take, drop}
+use Rattle.std.specs.List.{flat_map}
+use Rattle.files.specs.Cursors.{lines_left}
 use Rattle.files.specs.Packing.{unparted}
 use Rattle.files.proofs.pack.write_bodies.Given as goal
 
 -- what is written, and the lines that are left, make the bodies
-abbrev pub invariant-loop-at : goal.invariant-loop-at
-invariant-loop-at l =
-    (take l.next l.out ++ unparted (drop l.at l.text) ≡ take l.first l.initial.out ++ unparted l.text)
-    × (drop l.next l.out ≡ drop l.next l.initial.out)
-    × (l.next + length (unparted (drop l.at l.text)) ≡ l.first + length (unparted l.text))
-
-abbrev pub decreases-loop-at : goal.decreases-loop-at
-decreases-loop-at l = length l.text + 1 - l.at
+abbrev pub invariant-loop-line : goal.invariant-loop-line
+invariant-loop-line l =
+    let left = flat_map (λ b. b) (lines_left l.line-iterator) in
+    record {
+      can_next : (goal.iterator-loop-line).can_next l.line-iterator;
+      is_finite : (goal.iterator-loop-line).is_finite l.line-iterator;
+      stands : take l.next l.out ++ left ≡ take l.first l.initial.out ++ unparted l.text;
+      behind : drop l.next l.out ≡ drop l.next l.initial.out;
+      room : l.next + length left ≡ l.first + length (unparted l.text);
+    }

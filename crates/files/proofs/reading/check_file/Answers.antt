@@ -17,7 +17,7 @@ pub returns-in-Some : goal.returns-in-Some
 unfolding refusal_of
 returns-in-Some c =
     let f = c.args.file.now in
-    let r : Refusal = Contents c.in-Some.index (2 + 4 * c.in-Some.index) in
+    let r : Refusal = Contents c.from-index.result (2 + 4 * c.from-index.result) in
     let v : ◌≡◌ {A = Result ℕ Refusal} (Err r) (checked f) = search rules in
     let b = bytes_of f c.type_inv.file in
     record { value = v; written = answered f (Err r) b v; read = checked_counted f (Err r) b v }
