@@ -1,13 +1,13 @@
 -- The lines of a text, one by one, and what a file of them holds. Assumes nothing.
 use Rattle.std.proofs.Common.{◌≡◌, ℕ, suc, ◌+◌, ◌-◌, ◌*◌, ◌<◌, ◌≤◌, cond, eqb, List, [], ◌∷◌, ◌++◌, length, take, drop, Ok, Err, sym, refl, ap, ◌∙◌, arith}
 use Rattle.std.specs.List.{flat_map}
-use Rattle.std.proofs.lemmas.List.{drop_all, drop-drop, length-drop, length-append, take-append-drop, length-take-le}
+use Rattle.std.proofs.lemmas.List.{length-append, take-append-drop}
 use Rattle.std.proofs.lemmas.Bool.Decides.{nat_tests}
 use Rattle.files.specs.declared.types.PackError.TheVariants.{TooLarge, NoRoom}
 use Rattle.files.specs.Fields.{word}
 use Rattle.files.specs.Written.{short, contents, layout}
 use Rattle.files.specs.Packing.{lines_in, later_lines, begun_line, unparted, packed}
-use Rattle.files.proofs.Words.{by_test, word_le, word_take}
+use Rattle.files.proofs.Words.{by_test, word_take}
 use Rattle.shelf.proofs.Cells.{drop_later}
 use Rattle.files.proofs.LayingOut.{length_contents}
 

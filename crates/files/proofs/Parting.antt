@@ -1,13 +1,10 @@
 -- The fields of a body from a place on, and what the readers of a body's fields say of them. Assumes nothing.
-use Rattle.std.proofs.Common.{◌≡◌, ℕ, ◌+◌, ◌<◌, ◌≤◌, cond, ltb, leb, List, [], ◌∷◌, length, take, drop, Some, None, Ok, Err, Option, sym, refl, ap, ◌∙◌, ⊎_elim, zero-le, arith}
+use Rattle.std.proofs.Common.{◌≡◌, ℕ, ◌+◌, ◌<◌, ◌≤◌, cond, ltb, leb, List, [], ◌∷◌, length, take, drop, Some, None, sym, refl, ap, ◌∙◌, ⊎_elim, arith}
 use Rattle.std.specs.Bool.{then_some}
 use Rattle.std.proofs.lemmas.List.{length-drop}
 use Rattle.std.proofs.lemmas.Bool.{cond-true, cond-false, le-leb, lt-leb, lt-ltb, le-ltb, leb-true, leb-false, cases_eq}
-use Rattle.shelf.specs.Standing.{nth}
-use Rattle.files.specs.declared.types.Letter.{Letter}
-use Rattle.files.specs.declared.types.Letter.TheVariants as letter
-use Rattle.files.specs.Fields.{word, fields, number, first_letter, kind_letter, side_letter}
-use Rattle.files.specs.Lines.{New, and_then, said, ends_at, only_at, label_in, kind_from, new_of, line_from, read_words, read_line, left, past}
+use Rattle.files.specs.Fields.{word, fields}
+use Rattle.files.specs.Lines.{ends_at, only_at, left}
 use Rattle.files.proofs.Words.{by_test, word_le, word_take, behind_last, behind, within_word}
 
 pub left_none : (xs : List ℕ) (at : ℕ) → length xs < at → left at xs ≡ []

@@ -1,8 +1,8 @@
 -- Loops over the bytes of a field or a body, by what is left of them. Assumes nothing.
-use Rattle.std.proofs.Common.{◌≡◌, ℕ, ◌+◌, ◌-◌, ◌*◌, ◌^◌, ◌<◌, ◌≤◌, Bool, true, cond, ◌&&◌, eqb, List, [], ◌∷◌, length, get_or, drop, ap, pow-suc, add-one, arith, lit<}
+use Rattle.std.proofs.Common.{◌≡◌, ℕ, ◌+◌, ◌-◌, ◌*◌, ◌^◌, ◌<◌, ◌≤◌, Bool, true, ◌&&◌, List, length, get_or, drop, ap, pow-suc, add-one, arith, lit<}
 use native.Mathlib.Nat.{pow-le-pow_right}
 use Rattle.std.proofs.lemmas.List.{drop_more, drop_all}
-use Rattle.files.specs.Fields.{every, figure, word}
+use Rattle.files.specs.Fields.{every, figure}
 
 pub every_more : (p : ℕ → Bool) (xs : List ℕ) (i : ℕ) → i < length xs → every p (drop i xs) ≡ (p (get_or xs i 0) && every p (drop (i + 1) xs))
 every_more p xs i h = ap (every p) (drop_more xs i 0 h)
@@ -15,12 +15,6 @@ figure_more n xs i h = ap (figure n) (drop_more xs i 0 h)
 
 pub figure_all : (n : ℕ) (xs : List ℕ) (i : ℕ) → length xs ≤ i → figure n (drop i xs) ≡ n
 figure_all n xs i h = ap (figure n) (drop_all i xs h)
-
-pub word_more : (m : ℕ) (xs : List ℕ) (i : ℕ) → i < length xs → word m (drop i xs) ≡ cond (eqb (get_or xs i 0) m) [] (get_or xs i 0 ∷ word m (drop (i + 1) xs))
-word_more m xs i h = ap (word m) (drop_more xs i 0 h)
-
-pub word_all : (m : ℕ) (xs : List ℕ) (i : ℕ) → length xs ≤ i → word m (drop i xs) ≡ []
-word_all m xs i h = ap (word m) (drop_all i xs h)
 
 -- a digit more: the sum stays below the next power, and below ten million while a seventh digit is left
 pub digit_more : (n c i : ℕ) → n < 10 ^ i → c ≤ 57 → n * 10 + (c - 48) < 10 ^ (i + 1)

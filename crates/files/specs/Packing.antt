@@ -1,6 +1,6 @@
 -- A text of lines, and the session file that is packed from it, whatever the lines hold.
 -- Rests on the layout of a session file.
-use Rattle.std.specs.Prelude.{ℕ, cond, List, [], ◌∷◌, ◌++◌, length, drop, Ok, Err, Result, ◌==◌, nat_lt}
+use Rattle.std.specs.Prelude.{ℕ, cond, List, [], ◌∷◌, ◌++◌, length, drop, Ok, Err, Result, ◌==◌, nat_lt, codes}
 use Rattle.std.specs.List.{flat_map}
 use Rattle.files.specs.declared.types.PackError.{PackError}
 use Rattle.files.specs.declared.types.PackError.TheVariants.{TooManyLines, TooLarge, NoRoom}
@@ -36,3 +36,9 @@ packed ls room =
 abbrev pub output_after : List (List ℕ) → List ℕ → Result ℕ PackError → List ℕ
 output_after ls out (Ok n) = layout ls ++ drop n out
 output_after ls out (Err e) = out
+
+-- how an error is told
+abbrev pub message : PackError → List ℕ
+message TooManyLines = codes "more than 512 lines"
+message TooLarge = codes "the session file would have more than 65,535 bytes"
+message NoRoom = codes "the session file does not fit its buffer"

@@ -1,5 +1,6 @@
 // Reading the input of a program into a buffer.
-ghost use Rattle.std.specs.Prelude.{◌≤◌, length, IfOk};
+ghost use Rattle.std.specs.Prelude.{◌<◌, ◌≤◌, length, take, IfOk};
+ghost use Rattle.std.specs.Io.KnownBytes.{Consumes, IsAtEnd};
 
 use std::io;
 use std::io::Read;
@@ -9,14 +10,13 @@ use std::io::Read;
 pub const INPUT_BYTES: usize = 65_536;
 
 // Reads until the input ends or the buffer is full, and answers how many bytes were read.
-pub fn read_input(input: &mut impl Read, buffer: &mut [u8]) -> io::Result<usize>
-    ensures { IfOk result (λ n. n ≤ length buffer.old) }
+pub fn read_input<R: Read>(input: &mut R, buffer: &mut [u8]) -> io::Result<usize>
+    ensures fits { IfOk result (λ n. n ≤ length buffer.old) }
+    ensures bytes { IfOk result (λ n. Consumes (R.remaining input.old) (R.remaining input.new) (take n buffer.new)) }
+    ensures end { IfOk result (λ n. n < length buffer.old → IsAtEnd (R.remaining input.new)) }
 {
     let mut used = 0;
-    for _ in 0..INPUT_BYTES {
-        if used >= buffer.len() {
-            break;
-        }
+    while used < buffer.len() {
         let n = input.read(&mut buffer[used..])?;
         if n == 0 {
             break;

@@ -27,6 +27,7 @@ fn measure(text: &[u8]) -> Extent
     extent
 }
 
+// Writes bytes into the output, from a place on.
 fn write_at(out: &mut [u8], at: usize, bytes: &[u8])
     requires { at + length bytes.now ≤ length out.old }
     ensures stands { take (at + length bytes.now) out.new ≡ take at out.old ++ bytes.now }

@@ -1,5 +1,7 @@
 use market::types::Side;
 use rules::types::Kind;
+use std::error::Error;
+use std::fmt;
 
 // One body of a session file. The label of a new order is handed on as that part of the file.
 #[derive(Clone, Copy, Debug)]
@@ -93,3 +95,22 @@ pub enum PackError {
     // The output is shorter than the file.
     NoRoom,
 }
+
+impl fmt::Display for PackError {
+    ghost use Rattle.std.specs.Prelude.{Some};
+    ghost use Rattle.files.specs.Packing.{message};
+
+    ghost output = { λ error. Some (message error) };
+
+    fn fmt<W: fmt::Write>(&self, f: &mut fmt::Formatter<W>) -> fmt::Result {
+        match self {
+            PackError::TooManyLines => f.write_str("more than 512 lines"),
+            PackError::TooLarge => {
+                f.write_str("the session file would have more than 65,535 bytes")
+            }
+            PackError::NoRoom => f.write_str("the session file does not fit its buffer"),
+        }
+    }
+}
+
+impl Error for PackError {}

@@ -27,10 +27,8 @@ fn body(index: u32, place: u32) -> Result<usize, Refusal> {
 // The answer to the file that is packed of a text.
 fn packed(text: &[u8]) -> Result<usize, Refusal> {
     let mut file = [0u8; 256];
-    match pack(text, &mut file) {
-        Ok(size) => check_file(&file[0..size]),
-        Err(_) => Err(Refusal::ShortListing),
-    }
+    let size = pack(text, &mut file).map_err(|_| Refusal::ShortListing)?;
+    check_file(&file[..size])
 }
 
 #[test]
@@ -164,14 +162,11 @@ fn one_byte_changed(rt: HostRuntime) {
 }
 
 fn body_of(place: u32) -> u32 {
-    if place < 38 {
-        0
-    } else if place < 52 {
-        1
-    } else if place < 58 {
-        2
-    } else {
-        3
+    match place {
+        0..38 => 0,
+        38..52 => 1,
+        52..58 => 2,
+        _ => 3,
     }
 }
 
@@ -179,37 +174,35 @@ fn body_of(place: u32) -> u32 {
 #[test]
 fn bodies_read_back(rt: HostRuntime) -> Result<(), Fail> {
     let file = *LAWFUL;
-    match body_at(&file, 0) {
-        Some(
-            Body::New {
-                label,
-                side,
-                price,
-                kind,
-                shares,
-            },
-        ) => {
-            assert_eq!(rt; label, &file[20..24]);
-            assert_eq!(rt;
-                (side, price, kind, shares),
-                (Side::Buy, 1000, Kind::Olo, 5000)
-            );
-        }
-        _ => return Err(Fail::new("no new order")),
-    }
-    match body_at(&file, 1) {
-        Some(
-            Body::Post {
-                market,
-                side,
-                price,
-                shares,
-            },
-        ) => {
-            assert_eq!(rt; (market, side, price, shares), (3, Side::Sell, 1001, 200));
-        }
-        _ => return Err(Fail::new("no post")),
-    }
+    let Some(
+        Body::New {
+            label,
+            side,
+            price,
+            kind,
+            shares,
+        },
+    ) = body_at(&file, 0)
+    else {
+        return Err(Fail::new("no new order"));
+    };
+    assert_eq!(rt; label, &file[20..24]);
+    assert_eq!(rt;
+        (side, price, kind, shares),
+        (Side::Buy, 1000, Kind::Olo, 5000)
+    );
+    let Some(
+        Body::Post {
+            market,
+            side,
+            price,
+            shares,
+        },
+    ) = body_at(&file, 1)
+    else {
+        return Err(Fail::new("no post"));
+    };
+    assert_eq!(rt; (market, side, price, shares), (3, Side::Sell, 1001, 200));
     assert!(rt; body_at(&file, 4).is_none());
     Ok(())
 }
