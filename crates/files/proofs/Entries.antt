@@ -28,9 +28,6 @@ module _ (file : List ℕ) (k i j : ℕ) (step : k ≡ suc j) where
   body_wrong m e = rw step (ap (λ o. elim o [ None ↦ wrong_body file j (suc i) | Some n ↦ Some (Body i (offset_of file i + n.place)) ]) e)
 
 module _ (wanted : Wanted) (w : List ℕ) (ws : List (List ℕ)) (at : ℕ) where
-  pub field_right : (next : Wanted) → read_field wanted w (none ws) ≡ Ok next → fault_from wanted (w ∷ ws) at ≡ fault_from next ws (at + length w + 1)
-  field_right next e = ap (λ r. elim r [ Ok n ↦ fault_from n ws (at + length w + 1) | Err f ↦ Some (record { fault = f; place = at }) ]) e
-
   pub field_wrong : (f : Fault) → read_field wanted w (none ws) ≡ Err f → fault_from wanted (w ∷ ws) at ≡ Some (record { fault = f; place = at })
   field_wrong f e = ap (λ r. elim r [ Ok n ↦ fault_from n ws (at + length w + 1) | Err g ↦ Some (record { fault = g; place = at }) ]) e
 
@@ -61,10 +58,6 @@ module _ (xs w : List ℕ) (at next : ℕ) (wanted : Wanted) (is : left at xs �
       none_ends : (ws : List (List ℕ)) → ends_at 0 ws ≡ none ws
       none_ends [] = refl
       none_ends (v ∷ vs) = refl
-
-  pub field_read : (to : Wanted) → read_field wanted w (eqb (at + length w) (length xs)) ≡ Ok to → fault_left wanted xs at ≡ fault_left to xs next
-  field_read to r =
-      ap (λ ws. fault_from wanted ws at) is ∙ field_right wanted w (left next xs) at to (sym same_read ∙ r) ∙ ap (fault_from to (left next xs)) n
 
   pub field_refused : (f : Fault) → read_field wanted w (eqb (at + length w) (length xs)) ≡ Err f → fault_left wanted xs at ≡ Some (record { fault = f; place = at })
   field_refused f r = ap (λ ws. fault_from wanted ws at) is ∙ field_wrong wanted w (left next xs) at f (sym same_read ∙ r)

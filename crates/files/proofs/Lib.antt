@@ -1,4 +1,3 @@
-mod Scans
 mod Words
 mod Parting
 mod Entries

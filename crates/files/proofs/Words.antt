@@ -1,11 +1,10 @@
 -- Where the words of a list part: the first, and those behind it. Assumes nothing.
-use Rattle.std.proofs.Common.{◌≡◌, ℕ, suc, ◌+◌, ◌-◌, ◌<◌, ◌≤◌, Bool, true, false, cond, eqb, ltb, List, [], ◌∷◌, length, take, drop, Some, None, sym, refl, ap, ◌∙◌, arith}
+use Rattle.std.proofs.Common.{◌≡◌, ℕ, suc, ◌+◌, ◌<◌, ◌≤◌, Bool, true, false, cond, eqb, ltb, List, [], ◌∷◌, length, take, drop, Some, None, sym, refl, ap, arith}
 use Rattle.std.specs.List.{position, position_or_len}
 use Rattle.std.specs.Option.{unwrap_or}
 use Rattle.std.proofs.lemmas.Bool.{ltb-false}
 use Rattle.std.proofs.lemmas.List.Recursion.{is_position_or_len}
-use Rattle.std.proofs.lemmas.List.{drop-drop, length-drop}
-use Rattle.files.specs.Fields.{word, further, fields}
+use Rattle.files.specs.Fields.{word, further}
 
 pub by_test : (b : Bool) (P : Bool → Type 0) → (b ≡ true → P true) → (b ≡ false → P false) → P b
 by_test true P t f = t refl
@@ -41,25 +40,3 @@ further_some m [] h = absurd (omega arith)
 further_some m (c ∷ cs) h =
     by_test (eqb c m) (λ b. length (cond b [] (c ∷ word m cs)) < suc (length cs) → cond b (word m cs ∷ further m cs) (further m cs) ≡ word m (drop (length (cond b [] (c ∷ word m cs))) cs) ∷ further m (drop (length (cond b [] (c ∷ word m cs))) cs))
     (λ e k. refl) (λ e k. further_some m cs (omega arith)) h
-
--- the words behind a word that ends at e
-module _ (xs : List ℕ) (at e : ℕ) (in' : at ≤ length xs) (h : e ≡ at + length (word 32 (drop at xs))) where
-  pub behind_last : e ≡ length xs → further 32 (drop at xs) ≡ []
-  behind_last l = let n = length-drop at xs in further_none 32 (drop at xs) (omega arith)
-
-  pub behind : (e ≡ length xs → ⊥) → further 32 (drop at xs) ≡ fields (drop (e + 1) xs)
-  behind l =
-      let n = length-drop at xs in
-      let w = word_le 32 (drop at xs) in
-      let s = further_some 32 (drop at xs) (omega arith) in
-      let d : drop (suc (length (word 32 (drop at xs)))) (drop at xs) ≡ drop (e + 1) xs = drop-drop (suc (length (word 32 (drop at xs)))) at xs ∙ ap (λ k. drop k xs) (omega arith) in
-      s ∙ ap fields d
-
-  pub within_word : (e ≡ length xs → ⊥) → e + 1 ≤ length xs
-  within_word l =
-      let n = length-drop at xs in
-      let w = word_le 32 (drop at xs) in
-      omega arith
-
-  pub word_between : take (e - at) (drop at xs) ≡ word 32 (drop at xs)
-  word_between = ap (λ k. take k (drop at xs)) (omega arith) ∙ word_take 32 (drop at xs)

@@ -1,7 +1,7 @@
 -- The fields of a body: where they part, what each may be, and the first that is malformed.
 -- Rests on bytes as numbers, and on the enums that a field may stand for.
 use Rattle.std.specs.Prelude.{ℕ, ◌+◌, ◌-◌, ◌*◌, Bool, true, false, cond, ◌&&◌, ◌||◌, List, [], ◌∷◌, length, drop, Some, None, Ok, Err, Option, Result, ◌==◌, nat_le, nat_lt, slice_index}
-use Rattle.std.specs.List.{list_all}
+use Rattle.std.specs.List.{fold, list_all}
 use Rattle.market.specs.declared.types.Side.{Side}
 use Rattle.market.specs.declared.types.Side.TheVariants.{Buy, Sell}
 use Rattle.rules.specs.declared.types.Routing.{Routing}
@@ -45,8 +45,7 @@ every p w = list_all p w
 
 -- the number that digits write, after n before them
 abbrev pub figure : ℕ → List ℕ → ℕ
-figure n [] = n
-figure n (c ∷ cs) = figure (n * 10 + (c - 48)) cs
+figure n w = fold (λ m c. m * 10 + (c - 48)) n w
 
 -- 1 to 7 digits, no needless leading zero
 abbrev pub number : List ℕ → Result ℕ Fault
