@@ -1,12 +1,10 @@
 -- The lines of a text, one by one, and what a file of them holds. Assumes nothing.
-use Rattle.std.proofs.Common.{◌≡◌, ℕ, suc, ◌+◌, ◌-◌, ◌*◌, ◌<◌, ◌≤◌, cond, eqb, List, [], ◌∷◌, ◌++◌, length, take, drop, Ok, Err, sym, refl, ap, ◌∙◌, arith}
+use Rattle.std.proofs.Common.{◌≡◌, ℕ, suc, ◌+◌, ◌-◌, ◌*◌, ◌<◌, ◌≤◌, cond, eqb, List, [], ◌∷◌, ◌++◌, length, take, drop, sym, refl, ap, ◌∙◌, arith}
 use Rattle.std.specs.List.{flat_map}
 use Rattle.std.proofs.lemmas.List.{length-append, take-append-drop}
-use Rattle.std.proofs.lemmas.Bool.Decides.{nat_tests}
-use Rattle.files.specs.declared.types.PackError.TheVariants.{TooLarge, NoRoom}
 use Rattle.files.specs.Fields.{word}
 use Rattle.files.specs.Written.{short, contents, layout}
-use Rattle.files.specs.Packing.{lines_in, later_lines, begun_line, unparted, packed}
+use Rattle.files.specs.Packing.{lines_in, later_lines, begun_line, unparted}
 use Rattle.files.proofs.Words.{by_test, word_take}
 use Rattle.shelf.proofs.Cells.{drop_later}
 use Rattle.files.proofs.LayingOut.{length_contents}
@@ -64,24 +62,19 @@ length_layout ls =
     let a = length-append (contents (2 + 4 * length ls) ls) (flat_map (λ b. b) ls) in
     omega arith
 
--- the answers, by the size of the file
-pub packed_large : (ls : List (List ℕ)) (room : ℕ) → length ls ≤ 512 → 65535 < length (layout ls) → packed ls room ≡ Err TooLarge
-packed_large ls room h k = grind (arith, nat_tests)
-
-pub packed_short : (ls : List (List ℕ)) (room : ℕ) → length ls ≤ 512 → length (layout ls) ≤ 65535 → room < length (layout ls) → packed ls room ≡ Err NoRoom
-packed_short ls room h k j = grind (arith, nat_tests)
-
-pub packed_fits : (ls : List (List ℕ)) (room : ℕ) → length ls ≤ 512 → length (layout ls) ≤ 65535 → length (layout ls) ≤ room → packed ls room ≡ Ok (length (layout ls))
-packed_fits ls room h k j = grind (arith, nat_tests)
-
 -- the count, the contents and the bodies, written one behind the other, are the file
-pub written_out : (ls : List (List ℕ)) (out out1 out2 out3 : List ℕ) (f t : ℕ) → f ≡ 2 + 4 * length ls → t ≡ f + length (flat_map (λ b. b) ls)
-    → take 2 out1 ≡ short (length ls) → drop 2 out1 ≡ drop 2 out
-    → take f out2 ≡ take 2 out1 ++ contents f ls → drop f out2 ≡ drop f out1
-    → take t out3 ≡ take f out2 ++ flat_map (λ b. b) ls → drop t out3 ≡ drop t out2
-    → out3 ≡ layout ls ++ drop t out
+pub written_out : (ls : List (List ℕ)) (out out1 out2 out3 : List ℕ) (n b : ℕ) → n ≡ length ls → b ≡ length (flat_map (λ b. b) ls)
+    → take 2 out1 ≡ short n → drop 2 out1 ≡ drop 2 out
+    → take (2 + 4 * length ls) out2 ≡ take 2 out1 ++ contents (2 + 4 * n) ls → drop (2 + 4 * length ls) out2 ≡ drop (2 + 4 * length ls) out1
+    → take (2 + 4 * n + length (flat_map (λ b. b) ls)) out3 ≡ take (2 + 4 * n) out2 ++ flat_map (λ b. b) ls → drop (2 + 4 * n + length (flat_map (λ b. b) ls)) out3 ≡ drop (2 + 4 * n + length (flat_map (λ b. b) ls)) out2
+    → out3 ≡ layout ls ++ drop (2 + 4 * n + b) out
 unfolding layout
-written_out ls out out1 out2 out3 f t e k s1 b1 s2 b2 s3 b3 =
-    let b : drop t out3 ≡ drop t out = b3 ∙ drop_later out2 out1 f t (omega arith) b2 ∙ drop_later out1 out 2 t (omega arith) b1 in
-    let s : take t out3 ≡ short (length ls) ++ contents f ls ++ flat_map (λ b. b) ls = s3 ∙ ap (λ ys. ys ++ flat_map (λ b. b) ls) (s2 ∙ ap (λ ys. ys ++ contents f ls) s1) in
-    sym (take-append-drop t out3) ∙ ap (λ ys. ys ++ drop t out3) s ∙ ap (λ n. short (length ls) ++ contents n ls ++ flat_map (λ b. b) ls ++ drop t out3) e ∙ ap (λ ys. short (length ls) ++ contents (2 + 4 * length ls) ls ++ flat_map (λ b. b) ls ++ ys) b
+written_out ls out out1 out2 out3 n b e k s1 b1 s2 b2 s3 b3 =
+    let f = 2 + 4 * length ls in
+    let bytes = flat_map (λ b. b) ls in
+    let t = f + length bytes in
+    let x : 2 + 4 * n ≡ f = omega arith in
+    let d : drop t out3 ≡ drop t out = rw x at b3 ∙ drop_later out2 out1 f t (omega arith) b2 ∙ drop_later out1 out 2 t (omega arith) b1 in
+    let c : take f out2 ≡ short (length ls) ++ contents f ls = rw x at s2 ∙ ap (λ ys. ys ++ contents f ls) (s1 ∙ ap short e) in
+    let s : take t out3 ≡ short (length ls) ++ contents f ls ++ bytes = rw x at s3 ∙ ap (λ ys. ys ++ bytes) c in
+    sym (take-append-drop t out3) ∙ ap (λ ys. ys ++ drop t out3) s ∙ ap (λ ys. short (length ls) ++ contents f ls ++ bytes ++ ys) (d ∙ ap (λ m. drop m out) (omega arith))

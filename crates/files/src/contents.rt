@@ -53,6 +53,7 @@ pub fn is_wrong_size(file: &[u8]) -> bool
 
 // The first entry whose offset is not where the forerunner ends, or the count where only the last
 // body does not end with the file.
+#[tactic(auto, using(crate::proofs::Entries::entry_right, crate::proofs::Entries::entry_wrong))]
 pub fn wrong_entry(file: &[u8]) -> Option<u16>
     ensures { result ≡ wrong_entry file.now (count_of file.now) 0 (2 + 4 * count_of file.now) }
 {

@@ -77,6 +77,7 @@ fn write_bodies(out: &mut [u8], text: &[u8], first: usize)
 
 // Packs the lines of a text into a session file, and answers how many bytes it has. What the
 // output held behind them stays.
+#[tactic(auto, using(crate::proofs::Packing::length_layout))]
 pub fn pack(text: &[u8], out: &mut [u8]) -> Result<usize, PackError>
     ensures value { result ≡ packed (lines_in text.now) (length out.old) }
     ensures after { out.new ≡ output_after (lines_in text.now) out.old result }

@@ -5,15 +5,11 @@ use files::input::{INPUT_BYTES, read_input};
 use files::pack::pack;
 use std::io::Write;
 
-fn run(rt: &HostRuntime) -> anyhow::Result<()> {
+fn main(rt: HostRuntime) -> anyhow::Result<()> {
     let mut text = [0u8; INPUT_BYTES];
     let mut file = [0u8; INPUT_BYTES];
     let used = read_input(&mut rt.stdin(), &mut text)?;
     let size = pack(&text[..used], &mut file)?;
     rt.stdout().write_all(&file[..size])?;
     Ok(())
-}
-
-fn main(rt: HostRuntime) -> anyhow::Result<()> {
-    run(&rt)
 }
