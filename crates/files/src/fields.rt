@@ -174,7 +174,7 @@ fn wanted_for(kind: KindLetter) -> Wanted
 }
 
 // What is wanted behind a field that has to say a `T`, which `next` tells.
-fn after<T: Field>(field: &[u8], next: Wanted) -> Result<Wanted, Fault>
+fn then_wanted<T: Field>(field: &[u8], next: Wanted) -> Result<Wanted, Fault>
     ensures { result ≡ then_wanted (T.says field.now) (λ _. next) }
 {
     T::read(field)?;
@@ -199,18 +199,18 @@ fn after_field(wanted: Wanted, field: &[u8]) -> Result<Wanted, Fault>
         Wanted::First => Letter::read(field).map(wanted_behind),
         Wanted::Label => after_label(field),
         Wanted::Kind => KindLetter::read(field).map(wanted_for),
-        Wanted::Side => after::<Side>(field, Wanted::Price),
-        Wanted::Price => after::<u32>(field, Wanted::Shares),
-        Wanted::Shares => after::<u32>(field, Wanted::End),
-        Wanted::IloSide => after::<Side>(field, Wanted::IloPrice),
-        Wanted::IloPrice => after::<u32>(field, Wanted::IloShares),
-        Wanted::IloShares => after::<u32>(field, Wanted::Routing),
-        Wanted::Routing => after::<Routing>(field, Wanted::Mtv),
-        Wanted::Mtv => after::<u32>(field, Wanted::Mark),
-        Wanted::Mark => after::<Mark>(field, Wanted::End),
-        Wanted::CutArrival => after::<u32>(field, Wanted::Shares),
-        Wanted::CancelArrival => after::<u32>(field, Wanted::End),
-        Wanted::Market => after::<u32>(field, Wanted::Side),
+        Wanted::Side => then_wanted::<Side>(field, Wanted::Price),
+        Wanted::Price => then_wanted::<u32>(field, Wanted::Shares),
+        Wanted::Shares => then_wanted::<u32>(field, Wanted::End),
+        Wanted::IloSide => then_wanted::<Side>(field, Wanted::IloPrice),
+        Wanted::IloPrice => then_wanted::<u32>(field, Wanted::IloShares),
+        Wanted::IloShares => then_wanted::<u32>(field, Wanted::Routing),
+        Wanted::Routing => then_wanted::<Routing>(field, Wanted::Mtv),
+        Wanted::Mtv => then_wanted::<u32>(field, Wanted::Mark),
+        Wanted::Mark => then_wanted::<Mark>(field, Wanted::End),
+        Wanted::CutArrival => then_wanted::<u32>(field, Wanted::Shares),
+        Wanted::CancelArrival => then_wanted::<u32>(field, Wanted::End),
+        Wanted::Market => then_wanted::<u32>(field, Wanted::Side),
         Wanted::End => Err(Fault::Surplus),
     }
 }
