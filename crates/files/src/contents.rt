@@ -59,6 +59,7 @@ pub fn wrong_entry(file: &[u8]) -> Option<u16>
 {
     let count = count(file);
     let mut next = 2 + 4 * usize::from(count);
+    // A range, since the index is the answer.
     for index in 0..count {
         if usize::from(offset(file, index)) != next {
             return Some(index);

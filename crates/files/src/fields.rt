@@ -83,7 +83,7 @@ fn sole_letter(field: &[u8]) -> Option<char>
     ensures { result ≡ sole field.now }
 {
     match field {
-        [letter] => Some(*letter as char),
+        [letter] => Some(char::from(*letter)),
         _ => None,
     }
 }

@@ -16,6 +16,7 @@ pub fn read_input<R: Read>(input: &mut R, buffer: &mut [u8]) -> io::Result<usize
     ensures end { IfOk result (λ n. n < length buffer.old → IsAtEnd (R.remaining input.new)) }
 {
     let mut used = 0;
+    // By hand, since std's `read_exact` fails on a short input and `read_to_end` needs a heap.
     while used < buffer.len() {
         let n = input.read(&mut buffer[used..])?;
         if n == 0 {
