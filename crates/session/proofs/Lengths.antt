@@ -1,5 +1,5 @@
 -- How long the text of a session is. Rests on the ranges of the figures of a tape and on the count of its rows.
-use Rattle.std.proofs.Common.{◌≡◌, ℕ, zero, suc, ◌+◌, ◌*◌, ◌≤◌, List, [], ◌∷◌, ◌++◌, length, Some, None, Ok, Err, Option, Result, refl, arith, lit≤, length-append}
+use Rattle.std.proofs.Common.{◌≡◌, ℕ, zero, suc, ◌+◌, ◌*◌, ◌^◌, ◌<◌, ◌≤◌, List, [], ◌∷◌, ◌++◌, length, Some, None, Ok, Err, Option, Result, refl, arith, lit≤, length-append}
 use Rattle.std.specs.List.{AllByRecursion}
 use Rattle.std.proofs.lemmas.Fmt.{length-decimal-le}
 use Rattle.std.proofs.lemmas.Bool.Decides.{nat_tests}
@@ -28,6 +28,10 @@ use Rattle.files.specs.Written.{LawfulLine, Fitting}
 
 figure_short : (n : ℕ) → n ≤ 1000000 → length (figure_text n) ≤ 8
 figure_short n h = let k = length-decimal-le 7 n (omega arith) (omega arith) (omega arith) in omega arith
+
+-- the figure of any number of 32 bits
+pub figure_fits : (n : ℕ) → n < 2 ^ 32 → length (figure_text n) ≤ 11
+figure_fits n h = let k = length-decimal-le 10 n (omega arith) (omega arith) (omega arith) in omega arith
 
 pub four_short : (a b c d : ℕ) → a ≤ 1000000 → b ≤ 1000000 → c ≤ 1000000 → d ≤ 1000000 → length (four_text a b c d) ≤ 33
 four_short a b c d f g h k =

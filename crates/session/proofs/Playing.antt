@@ -1,13 +1,12 @@
 -- The lines of a session played one by one: what is written, and the text of those that are left, make the whole. Assumes nothing.
-use Rattle.std.proofs.Common.{◌≡◌, ℕ, zero, suc, ◌+◌, ◌<◌, ◌≤◌, true, List, [], ◌∷◌, ◌++◌, length, take, drop, is_some, Some, None, Ok, Err, Option, Result, sym, refl, ap, ◌∙◌, subst, append_assoc, append-nil, arith, length-append, length-take}
+use Rattle.std.proofs.Common.{◌≡◌, ℕ, zero, suc, ◌+◌, ◌<◌, ◌≤◌, true, List, [], ◌∷◌, ◌++◌, length, drop, is_some, Some, None, Ok, Err, Option, Result, sym, refl, ap, ◌∙◌, subst, append_assoc, append-nil, arith, length-append, length-take}
 use Rattle.std.specs.List.{AllByRecursion}
-use Rattle.std.proofs.lemmas.List.{length-take-le, drop_all}
+use Rattle.std.proofs.lemmas.List.{drop_all}
 use Rattle.std.proofs.lemmas.Bool.{cond_both}
 use Rattle.market.specs.declared.types.Refusal.{Refusal}
 use Rattle.market.specs.declared.types.Refusal.TheVariants.{NotResting}
 use Rattle.market.specs.Words.{opposite}
 use Rattle.shelf.specs.Standing.{nth}
-use Rattle.shelf.proofs.Cells.{drop_later}
 use Rattle.board.specs.Quotes.{post_answer}
 use Rattle.rules.specs.declared.types.Accepted.{Accepted}
 use Rattle.rules.specs.declared.types.Located.{Located}
@@ -23,9 +22,11 @@ use Rattle.book.specs.Held.{CellsKept}
 use Rattle.files.specs.declared.types.Body.{Body}
 use Rattle.files.specs.Lines.{Line, line_in}
 use Rattle.session.specs.Calls.{call_of}
-use Rattle.session.specs.Listing.{Wrote, answer_text, rows_text, label_text, entry_text, entries_text, light_after}
+use Rattle.session.specs.Listing.{answer_text, rows_text, label_text, entry_text, entries_text, light_after}
+use Rattle.session.specs.declared.listing.Page.{Page}
+use Rattle.session.specs.Pages.{HasRoom, Wrote}
 use Rattle.session.specs.Sessions.{rows_count, calls}
-use Rattle.session.proofs.Writing.{wrote_then}
+use Rattle.session.proofs.Writing.{wrote_then, wrote_none}
 
 -- the identifier after the last entry is that of the market after the last call
 pub light_right : (t : Terms) (m : Market) (cs : List (Call × ℕ)) → light_after (lit m) (tape t m cs) ≡ lit (after t m cs)
@@ -39,46 +40,43 @@ drop_nth (y ∷ ys) (suc i) x e =
     let k : suc (i + 1) ≡ suc i + 1 = omega arith in
     drop_nth ys i x e ∙ ap (λ n. x ∷ drop n (y ∷ ys)) k
 
--- i lines are played, from the market `start` to m, and the listing is written up to `at`
-pub record Played (t : Terms) (start m : Market) (lines : List Line) (i at : ℕ) (old new : List ℕ) : Type 0 where
-  pub text : take at new ++ entries_text (drop i lines) (tape t m (calls (drop i lines))) ≡ entries_text lines (tape t start (calls lines))
-  pub within : at ≤ length new
-  pub behind : drop at new ≡ drop at old
+-- i lines are played, from the market `start` to m, and their text is written
+pub record Played (t : Terms) (start m : Market) (lines : List Line) (i : ℕ) (old new : Page) : Type 0 where
+  pub text : List ℕ
+  pub wrote : Wrote old new text
+  pub whole : text ++ entries_text (drop i lines) (tape t m (calls (drop i lines))) ≡ entries_text lines (tape t start (calls lines))
   pub market : after t m (calls (drop i lines)) ≡ after t start (calls lines)
 
-module _ (t : Terms) (start : Market) (lines : List Line) where
-  pub played_none : (old : List ℕ) → Played t start start lines 0 0 old old
-  played_none old = record { text = refl; within = omega arith; behind = refl; market = refl }
+pub played_none : {t : Terms} {start : Market} {lines : List Line} (p : Page) → Played t start start lines 0 p p
+played_none p = record { text = []; wrote = wrote_none p; whole = refl; market = refl }
 
-  pub played_more : (m n : Market) (i at end : ℕ) (old mid new : List ℕ) (line : Line) → nth i lines ≡ Some line → Played t start m lines i at old mid → Wrote at mid end new (entry_text line (entry (call_of line) 144 (apply t m (call_of line) 144))) → n ≡ (apply t m (call_of line) 144).market → end ≤ length new → Played t start n lines (i + 1) end old new
-  played_more m n i at end old mid new line here p w after_is room =
-      let o = apply t m (call_of line) 144 in
-      let rest = drop (i + 1) lines in
-      let left : drop i lines ≡ line ∷ rest = drop_nth lines i line here in
-      let text = entry_text line (entry (call_of line) 144 o) in
+module _ {t : Terms} {start m : Market} {lines : List Line} {i : ℕ} {old page : Page} (p : Played t start m lines i old page) where
+  -- what is left of the text, where a line is played next
+  text_left : (line : Line) → nth i lines ≡ Some line → p.text ++ (entry_text line (entry (call_of line) 144 (apply t m (call_of line) 144)) ++ entries_text (drop (i + 1) lines) (tape t (apply t m (call_of line) 144).market (calls (drop (i + 1) lines)))) ≡ entries_text lines (tape t start (calls lines))
+  text_left line here = ap (λ ls. p.text ++ entries_text ls (tape t m (calls ls))) (sym (drop_nth lines i line here)) ∙ p.whole
+
+  pub room_left : (line : Line) → nth i lines ≡ Some line → HasRoom old (entries_text lines (tape t start (calls lines))) → HasRoom page (entry_text line (entry (call_of line) 144 (apply t m (call_of line) 144)))
+  room_left line here room =
+      let w = p.wrote in
+      let text = entry_text line (entry (call_of line) 144 (apply t m (call_of line) 144)) in
+      let rest = entries_text (drop (i + 1) lines) (tape t (apply t m (call_of line) 144).market (calls (drop (i + 1) lines))) in
+      omega (arith, ap length (text_left line here), length-append p.text (text ++ rest), length-append text rest, w.end, w.same_length)
+
+  pub played_more : {n : Market} {new : Page} (line : Line) → nth i lines ≡ Some line → Wrote page new (entry_text line (entry (call_of line) 144 (apply t m (call_of line) 144))) → n ≡ (apply t m (call_of line) 144).market → Played t start n lines (i + 1) old new
+  played_more line here w after_is =
+      let text = entry_text line (entry (call_of line) 144 (apply t m (call_of line) 144)) in
       record {
-        text =
-            ap (λ x. take end new ++ entries_text rest (tape t x (calls rest))) after_is
-            ∙ ap (λ xs. xs ++ entries_text rest (tape t o.market (calls rest))) w.1
-            ∙ append_assoc (take at mid) text (entries_text rest (tape t o.market (calls rest)))
-            ∙ ap (λ ls. take at mid ++ entries_text ls (tape t m (calls ls))) (sym left)
-            ∙ p.text;
-        within = room;
-        behind = w.2 ∙ drop_later mid old at end (omega (arith, w.0)) p.behind;
-        market = ap (λ x. after t x (calls rest)) after_is ∙ ap (λ ls. after t m (calls ls)) (sym left) ∙ p.market;
+        text = p.text ++ text;
+        wrote = wrote_then p.wrote w;
+        whole = rw after_is (append_assoc p.text text _ ∙ text_left line here);
+        market = rw after_is (ap (λ ls. after t m (calls ls)) (sym (drop_nth lines i line here)) ∙ p.market);
       }
 
-  -- what is written is no longer than the whole
-  pub played_short : (m : Market) (i at : ℕ) (old new : List ℕ) → Played t start m lines i at old new → at ≤ length (entries_text lines (tape t start (calls lines)))
-  played_short m i at old new p =
-      let rest = entries_text (drop i lines) (tape t m (calls (drop i lines))) in
-      omega (arith, ap length p.text, length-append (take at new) rest, length-take-le at new p.within)
-
-  pub played_all : (m : Market) (i at : ℕ) (old new : List ℕ) → Played t start m lines i at old new → length lines ≤ i → Wrote 0 old at new (entries_text lines (tape t start (calls lines))) × (m ≡ after t start (calls lines))
-  played_all m i at old new p h =
+  pub played_all : length lines ≤ i → Wrote old page (entries_text lines (tape t start (calls lines))) × (m ≡ after t start (calls lines))
+  played_all h =
       let none : drop i lines ≡ [] = drop_all i lines h in
-      let text : take at new ≡ entries_text lines (tape t start (calls lines)) = sym (append-nil (take at new)) ∙ ap (λ ls. take at new ++ entries_text ls (tape t m (calls ls))) (sym none) ∙ p.text in
-      ((omega (arith, ap length text, length-take-le at new p.within), text, p.behind), ap (λ ls. after t m (calls ls)) (sym none) ∙ p.market)
+      let text : p.text ≡ entries_text lines (tape t start (calls lines)) = sym (append-nil p.text) ∙ ap (λ ls. p.text ++ entries_text ls (tape t m (calls ls))) (sym none) ∙ p.whole in
+      (subst (Wrote old page) text p.wrote, ap (λ ls. after t m (calls ls)) (sym none) ∙ p.market)
 
 -- An accepted call answers how many rows it wrote.
 abbrev Tallied : Result Accepted Refusal → List Row → Type 0
@@ -139,12 +137,10 @@ pub rows_few : (r : Result Accepted Refusal) (report : List Row) → length (row
 rows_few (Ok a) report = omega (arith, length-take a.rows report)
 rows_few (Err f) report = omega arith
 
-pub entry_wrote : (line : Line) (o : Outcome) (label : List ℕ) (r : Result Accepted Refusal) (rows listed : List Row) (m : Market) (at mid end : ℕ) (old between new : List ℕ) → label ≡ label_text line → listed ≡ rows → outcome r rows m ≡ o → Wrote at old mid between (answer_text label r) → Wrote mid between end new (rows_text listed) → Wrote at old end new (entry_text line (entry (call_of line) 144 o))
-entry_wrote line o label r rows listed m at mid end old between new is_label is-rows is-outcome w v =
-    subst (λ (x : Outcome). Wrote at old end new (entry_text line (entry (call_of line) 144 x))) is-outcome
-    (subst (λ rs. Wrote at old end new (answer_text (label_text line) r ++ rows_text rs)) is-rows
-    (subst (λ l. Wrote at old end new (answer_text l r ++ rows_text listed)) is_label
-    (wrote_then at mid end old between new (answer_text label r) (rows_text listed) w v)))
+-- what is written of a call is the text of its entry
+pub entry_is : (line : Line) {o : Outcome} {label : List ℕ} {r : Result Accepted Refusal} {rows listed : List Row} {m : Market} → label ≡ label_text line → listed ≡ rows → outcome r rows m ≡ o → answer_text label r ++ rows_text listed ≡ entry_text line (entry (call_of line) 144 o)
+entry_is line {r = r} {listed = listed} is_label is_rows is_outcome =
+    ap (λ l. answer_text l r ++ rows_text listed) is_label ∙ ap (λ rs. answer_text (label_text line) r ++ rows_text rs) is_rows ∙ ap (λ (x : Outcome). entry_text line (entry (call_of line) 144 x)) is_outcome
 
 pub ranking_kept : {A R : Type 0} (r : Result A Refusal) (k n : Book R) (bids bids' offers offers' : List Order) → CellsKept r k n bids bids' offers offers' → n.ranking ≡ k.ranking
 ranking_kept (Ok a) k n bids bids' offers offers' h = h.0

@@ -1,3 +1,5 @@
 pub mod Listing
+pub mod Pages
 pub mod Calls
+pub mod Markets
 pub mod Sessions

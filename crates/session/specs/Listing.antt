@@ -1,6 +1,6 @@
 -- The text of a listing: a line for each call, one for each of its rows, and the last line.
 -- Rests on the tape, on the lines of a file for the labels, and on decimals as the library writes them.
-use Rattle.std.specs.Prelude.{◌≡◌, ℕ, ◌+◌, Bool, true, false, List, [], ◌∷◌, ◌++◌, length, take, drop, codes, decimal, Result}
+use Rattle.std.specs.Prelude.{ℕ, Bool, true, false, List, [], ◌∷◌, ◌++◌, codes, decimal, Result}
 use Rattle.std.specs.List.{flat_map}
 use Rattle.market.specs.declared.types.Refusal.{Refusal}
 use Rattle.market.specs.Refusals.{number_of, index_of, place_of}
@@ -65,7 +65,3 @@ listing_text lines es = entries_text lines es ++ light_text (light_after false e
 -- `BAD number index place`
 abbrev pub refusal_text : Refusal → List ℕ
 refusal_text e = codes "BAD" ++ (figure_text (number_of e) ++ (figure_text (index_of e) ++ (figure_text (place_of e) ++ (10 ∷ []))))
-
--- text written at a place: what stands before and behind is as it was
-abbrev pub Wrote : ℕ → List ℕ → ℕ → List ℕ → List ℕ → Type 0
-Wrote at old end new text = (end ≡ at + length text) × (take end new ≡ take at old ++ text) × (drop end new ≡ drop end old)

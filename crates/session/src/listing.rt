@@ -1,149 +1,149 @@
 // Writing the listing: a line for each call, a line for each of its rows, and the last line with
-// the Liquidity Identifier. Each writer is handed the place to write at and answers the place
-// behind what it wrote.
-ghost use Rattle.std.specs.Prelude.{◌≡◌, ◌+◌, ◌*◌, ◌<◌, ◌≤◌, [], ◌∷◌, length, decimal};
-ghost use Rattle.session.specs.Listing.{figure_text, four_text, answer_text, row_text, rows_text, light_text, refusal_text, Wrote};
+// the Liquidity Identifier.
 
+use itoa::Buffer;
 use market::types::Refusal;
 use rules::types::{Accepted, Row};
 
-fn write_byte(listing: &mut [u8], at: usize, b: u8) -> usize
-    requires { at < length listing.old }
-    ensures { Wrote at listing.old result listing.new (b ∷ []) }
-{
-    listing[at] = b;
-    at + 1
+// The bytes lent for a listing, and how many of them are written.
+#[derive(Drop)]
+pub struct Page<'a> {
+    pub bytes: &'a mut [u8],
+    pub written: usize,
 }
 
-// A number in decimal.
-fn write_number(listing: &mut [u8], at: usize, n: u32) -> usize
-    requires { at + 10 ≤ length listing.old }
-    ensures wrote { Wrote at listing.old result listing.new (decimal n) }
-    ensures short { result ≤ at + 10 }
-{
-    if n < 10 {
-        return write_byte(listing, at, b'0' + n as u8);
+impl<'a> Page<'a> {
+    ghost use Rattle.std.specs.Prelude.{◌≡◌, ◌+◌, ◌≤◌, [], ◌∷◌, length, decimal};
+    ghost use Rattle.session.specs.Listing.{figure_text, four_text, answer_text, row_text, rows_text, light_text, refusal_text};
+    ghost use Rattle.session.specs.Pages.{HasRoom, Wrote};
+
+    // A page on which nothing is written yet.
+    pub fn new(bytes: &'a mut [u8]) -> Page<'a>
+        ensures same_bytes { result.bytes.ghost_name ≡ bytes.entry.ghost_name }
+        ensures bytes { result.bytes.now ≡ bytes.old }
+        ensures written { result.written ≡ 0 }
+    {
+        Page { bytes, written: 0 }
     }
-    let end = write_number(listing, at, n / 10);
-    write_byte(listing, end, b'0' + (n % 10) as u8)
-}
 
-// A space and a number.
-fn write_figure(listing: &mut [u8], at: usize, n: u32) -> usize
-    requires { at + 11 ≤ length listing.old }
-    ensures wrote { Wrote at listing.old result listing.new (figure_text n) }
-    ensures short { result ≤ at + 11 }
-{
-    let end = write_byte(listing, at, b' ');
-    write_number(listing, end, n)
-}
-
-// Four figures and a line feed.
-fn write_four(listing: &mut [u8], at: usize, a: u32, b: u32, c: u32, d: u32) -> usize
-    requires { at + 45 ≤ length listing.old }
-    ensures wrote { Wrote at listing.old result listing.new (four_text a b c d) }
-    ensures short { result ≤ at + 45 }
-{
-    let first = write_figure(listing, at, a);
-    let second = write_figure(listing, first, b);
-    let third = write_figure(listing, second, c);
-    let fourth = write_figure(listing, third, d);
-    write_byte(listing, fourth, b'\n')
-}
-
-// A label as it stands in the file, or the dash.
-fn write_bytes(listing: &mut [u8], at: usize, bytes: &[u8]) -> usize
-    requires { at + length bytes.now ≤ length listing.old }
-    ensures { Wrote at listing.old result listing.new bytes.now }
-{
-    for i in 0..bytes.len() {
-        listing[at + i] = bytes[i];
+    fn byte(&mut self, b: u8)
+        requires { HasRoom self.old (b ∷ []) }
+        ensures { Wrote self.old self.new (b ∷ []) }
+    {
+        self.bytes[self.written] = b;
+        self.written += 1;
     }
-    at + bytes.len()
-}
 
-// The line of a call: its label, its answer and three figures.
-pub fn write_answer(
-    listing: &mut [u8],
-    at: usize,
-    label: &[u8],
-    answer: Result<Accepted, Refusal>,
-) -> usize
-    requires { at + (length label.now + 45) ≤ length listing.old }
-    ensures wrote { Wrote at listing.old result listing.new (answer_text label.now answer) }
-    ensures short { result ≤ at + (length label.now + 45) }
-{
-    let end = write_bytes(listing, at, label);
-    match answer {
-        Ok(a) => write_four(listing, end, 0, a.arrival, a.open, a.cancelled),
-        Err(refusal) => write_four(listing, end, refusal.number(), 0, 0, 0),
+    fn text(&mut self, text: &[u8])
+        requires { HasRoom self.old text.now }
+        ensures { Wrote self.old self.new text.now }
+    {
+        let end = self.written + text.len();
+        self.bytes[self.written..end].copy_from_slice(text);
+        self.written = end;
     }
-}
 
-// A row: its letter and four figures.
-fn write_row(listing: &mut [u8], at: usize, row: &Row) -> usize
-    requires { at + 46 ≤ length listing.old }
-    ensures wrote { Wrote at listing.old result listing.new (row_text row.now) }
-    ensures short { result ≤ at + 46 }
-{
-    match *row {
-        Row::Fill {
-            incoming,
-            resting,
-            price,
-            shares,
-        } => {
-            let end = write_byte(listing, at, b'F');
-            write_four(listing, end, incoming, resting, price, shares)
-        }
-        Row::Route {
-            arrival,
-            market,
-            price,
-            shares,
-        } => {
-            let end = write_byte(listing, at, b'R');
-            write_four(listing, end, arrival, market, price, shares)
+    // A number in decimal.
+    fn number(&mut self, n: u32)
+        requires { HasRoom self.old (decimal n) }
+        ensures { Wrote self.old self.new (decimal n) }
+    {
+        let mut digits = Buffer::new();
+        self.text(digits.format(n).as_bytes());
+    }
+
+    // A space and a number.
+    fn figure(&mut self, n: u32)
+        requires { HasRoom self.old (figure_text n) }
+        ensures { Wrote self.old self.new (figure_text n) }
+    {
+        self.byte(b' ');
+        self.number(n);
+    }
+
+    // Four figures and a line feed.
+    fn four(&mut self, a: u32, b: u32, c: u32, d: u32)
+        requires { HasRoom self.old (four_text a b c d) }
+        ensures { Wrote self.old self.new (four_text a b c d) }
+    {
+        self.figure(a);
+        self.figure(b);
+        self.figure(c);
+        self.figure(d);
+        self.byte(b'\n');
+    }
+
+    // The line of a call: its label, its answer and three figures.
+    pub fn answer(&mut self, label: &[u8], answer: Result<Accepted, Refusal>)
+        requires { HasRoom self.old (answer_text label.now answer) }
+        ensures { Wrote self.old self.new (answer_text label.now answer) }
+    {
+        self.text(label);
+        match answer {
+            Ok(a) => self.four(0, a.arrival, a.open, a.cancelled),
+            Err(refusal) => self.four(refusal.number(), 0, 0, 0),
         }
     }
-}
 
-pub fn write_rows(listing: &mut [u8], at: usize, rows: &[Row]) -> usize
-    requires { at + 46 * length rows.now ≤ length listing.old }
-    ensures wrote { Wrote at listing.old result listing.new (rows_text rows.now) }
-    ensures short { result ≤ at + 46 * length rows.now }
-{
-    let mut end = at;
-    for row in rows {
-        end = write_row(listing, end, row);
+    // A row: its letter and four figures.
+    fn row(&mut self, row: &Row)
+        requires { HasRoom self.old (row_text row.now) }
+        ensures { Wrote self.old self.new (row_text row.now) }
+    {
+        match *row {
+            Row::Fill {
+                incoming,
+                resting,
+                price,
+                shares,
+            } => {
+                self.byte(b'F');
+                self.four(incoming, resting, price, shares);
+            }
+            Row::Route {
+                arrival,
+                market,
+                price,
+                shares,
+            } => {
+                self.byte(b'R');
+                self.four(arrival, market, price, shares);
+            }
+        }
     }
-    end
-}
 
-// The last line: whether the Liquidity Identifier is lit.
-pub fn write_light(listing: &mut [u8], at: usize, lit: bool) -> usize
-    requires { at + 5 ≤ length listing.old }
-    ensures wrote { Wrote at listing.old result listing.new (light_text lit) }
-    ensures short { result ≡ at + 5 }
-{
-    if lit {
-        return write_bytes(listing, at, b"LI 1\n");
+    pub fn rows(&mut self, rows: &[Row])
+        requires { HasRoom self.old (rows_text rows.now) }
+        ensures { Wrote self.old self.new (rows_text rows.now) }
+    {
+        for row in rows {
+            self.row(row);
+        }
     }
-    write_bytes(listing, at, b"LI 0\n")
-}
 
-// The line of a refusal, at the start.
-pub fn write_refusal(listing: &mut [u8], refusal: Refusal) -> usize
-    requires { 37 ≤ length listing.old }
-    ensures wrote { Wrote 0 listing.old result listing.new (refusal_text refusal) }
-    ensures short { result ≤ 37 }
-{
-    let number = refusal.number();
-    let index = refusal.index();
-    let place = refusal.place();
-    let first = write_bytes(listing, 0, b"BAD");
-    let second = write_figure(listing, first, number);
-    let third = write_figure(listing, second, index);
-    let fourth = write_figure(listing, third, place);
-    write_byte(listing, fourth, b'\n')
+    // The last line: whether the Liquidity Identifier is lit.
+    pub fn light(&mut self, lit: bool)
+        requires { HasRoom self.old (light_text lit) }
+        ensures { Wrote self.old self.new (light_text lit) }
+    {
+        if lit {
+            self.text(b"LI 1\n");
+        } else {
+            self.text(b"LI 0\n");
+        }
+    }
+
+    // The line of a refusal, of at most 37 bytes.
+    #[tactic(auto, using(crate::proofs::Lengths::figure_fits))]
+    pub fn refusal(&mut self, refusal: Refusal)
+        requires { self.old.written + 37 ≤ length self.old.bytes.now }
+        ensures wrote { Wrote self.old self.new (refusal_text refusal) }
+        ensures short { length (refusal_text refusal) ≤ 37 }
+    {
+        self.text(b"BAD");
+        self.figure(refusal.number());
+        self.figure(refusal.index());
+        self.figure(refusal.place());
+        self.byte(b'\n');
+    }
 }

@@ -5,14 +5,15 @@ ghost use Rattle.market.specs.declared.types.Refusal.{Refusal};
 ghost use Rattle.rules.specs.Calls.{terms, apply, rows_in};
 ghost use Rattle.rules.specs.Rankings.{size_time};
 ghost use Rattle.law.specs.Law.{entry, after, tape};
-ghost use Rattle.book.specs.Held.{held};
 ghost use Rattle.files.specs.Lines.{line_of};
 ghost use Rattle.session.specs.Calls.{call_of};
 ghost use Rattle.files.specs.Files.{read_file, lines_in};
-ghost use Rattle.session.specs.Listing.{label_text, entry_text, entries_text, Wrote};
+ghost use Rattle.session.specs.Listing.{label_text, entry_text, entries_text};
+ghost use Rattle.session.specs.Pages.{HasRoom, Wrote};
+ghost use Rattle.session.specs.Markets.{market_of};
 ghost use Rattle.session.specs.Sessions.{rows_count, calls, session_lines, answer_of, listing_after, quotes_after, written_over, no_quotes, printed, FairSession, Short, Ran, host_number};
 
-use crate::listing::{write_answer, write_light, write_refusal, write_rows};
+use crate::listing::Page;
 use board::Board;
 use board::plate::Plate;
 use book::book::Book;
@@ -43,7 +44,7 @@ const NO_ROW: Row = Row::Fill {
     shares: 0,
 };
 
-// The call that a body makes.
+// The call that a body makes. A function, since an `impl From` has to stand in the crate of one of the types.
 fn call_of(body: &Body) -> Call
     ensures { result ≡ call_of (line_of body.now) }
 {
@@ -92,60 +93,53 @@ fn rows_of(answer: Result<Accepted, Refusal>, report: &[Row]) -> &[Row]
     ensures { result.now ≡ rows_in answer report.now }
 {
     match answer {
-        Ok(Accepted { rows, .. }) => &report[0..rows],
-        Err(_) => &report[0..0],
+        Ok(Accepted { rows, .. }) => &report[..rows],
+        Err(_) => &[],
     }
 }
 
-// Makes the call of a body and writes its line and its rows. A label has at most 12 bytes and a
-// call at most 144 rows, so 12 + 45 + 144 * 46 bytes are room enough.
-fn play<R: Ranking + Copy, B: Board>(
-    book: &mut Book<R>,
-    body: &Body,
-    bids: &mut [Order],
-    offers: &mut [Order],
-    board: &mut B,
-    report: &mut [Row],
-    listing: &mut [u8],
-    at: usize,
-) -> usize
-    requires handed { (length bids.old ≡ 128) × (length offers.old ≡ 128) × (length report.old ≡ 144) }
-    requires label { length (label_text (line_of body.now)) ≤ 12 }
-    requires room { at + 6681 ≤ length listing.old }
-    ensures wrote { Wrote at listing.old result listing.new (entry_text (line_of body.now) (entry (call_of (line_of body.now)) 144 (apply (terms (R.ranked book.old.ranking)) (held book.old bids.old offers.old (B.quotes board.old)) (call_of (line_of body.now)) 144))) }
-    ensures market { held book.new bids.new offers.new (B.quotes board.new) ≡ (apply (terms (R.ranked book.old.ranking)) (held book.old bids.old offers.old (B.quotes board.old)) (call_of (line_of body.now)) 144).market }
-    ensures ranking { book.new.ranking ≡ book.old.ranking }
-    ensures within { result ≤ at + 6681 }
-{
-    let answer = book.apply(call_of(body), bids, offers, board, report);
-    let end = write_answer(listing, at, label_of(body), answer);
-    write_rows(listing, end, rows_of(answer, report))
+// A session as it is played: a book with the cells of its sides, and the report of the last call.
+// The board and the page are handed to each method: of a `&mut` that is kept in a struct beside
+// another struct, a caller does not learn what was left behind it.
+#[derive(Drop)]
+struct Session<R> {
+    book: Book<R>,
+    bids: [Order; CELLS],
+    offers: [Order; CELLS],
+    report: [Row; REPORT_ROWS],
 }
 
-// Plays the bodies of an accepted file one by one, and answers the place behind what was written.
-fn play_all<R: Ranking + Copy, B: Board>(
-    book: &mut Book<R>,
-    file: &[u8],
-    count: usize,
-    bids: &mut [Order],
-    offers: &mut [Order],
-    board: &mut B,
-    report: &mut [Row],
-    listing: &mut [u8],
-) -> usize
-    requires read { (read_file file.now ≡ Ok (lines_in file.now)) × (count ≡ length (lines_in file.now)) }
-    requires handed { (length bids.old ≡ 128) × (length offers.old ≡ 128) × (length report.old ≡ 144) }
-    requires room { length (entries_text (lines_in file.now) (tape (terms (R.ranked book.old.ranking)) (held book.old bids.old offers.old (B.quotes board.old)) (calls (lines_in file.now)))) + 6681 ≤ length listing.old }
-    ensures wrote { Wrote 0 listing.old result listing.new (entries_text (lines_in file.now) (tape (terms (R.ranked book.old.ranking)) (held book.old bids.old offers.old (B.quotes board.old)) (calls (lines_in file.now)))) }
-    ensures market { held book.new bids.new offers.new (B.quotes board.new) ≡ after (terms (R.ranked book.old.ranking)) (held book.old bids.old offers.old (B.quotes board.old)) (calls (lines_in file.now)) }
-    ensures within { result + 6681 ≤ length listing.old }
-{
-    let mut at = 0;
-    for index in 0..count {
-        let body = body_at(file, index).unwrap();
-        at = play(book, &body, bids, offers, board, report, listing, at);
+impl<R: Ranking + Copy> Session<R> {
+    // Makes the call of a body and writes its line and its rows.
+    fn play<B: Board>(&mut self, body: &Body, board: &mut B, page: &mut Page)
+        requires { let line = line_of body.now in HasRoom page.old (entry_text line (entry (call_of line) 144 (apply (terms (R.ranked self.old.book.ranking)) (market_of self.old (B.quotes board.old)) (call_of line) 144))) }
+        ensures wrote { let line = line_of body.now in Wrote page.old page.new (entry_text line (entry (call_of line) 144 (apply (terms (R.ranked self.old.book.ranking)) (market_of self.old (B.quotes board.old)) (call_of line) 144))) }
+        ensures market { market_of self.new (B.quotes board.new) ≡ (apply (terms (R.ranked self.old.book.ranking)) (market_of self.old (B.quotes board.old)) (call_of (line_of body.now)) 144).market }
+        ensures ranking { self.new.book.ranking ≡ self.old.book.ranking }
+    {
+        let answer = self.book.apply(
+            call_of(body),
+            &mut self.bids,
+            &mut self.offers,
+            board,
+            &mut self.report,
+        );
+        page.answer(label_of(body), answer);
+        page.rows(rows_of(answer, &self.report));
     }
-    at
+
+    // Plays the bodies of an accepted file one by one.
+    fn play_all<B: Board>(&mut self, file: &[u8], count: usize, board: &mut B, page: &mut Page)
+        requires read { (read_file file.now ≡ Ok (lines_in file.now)) × (count ≡ length (lines_in file.now)) }
+        requires room { HasRoom page.old (entries_text (lines_in file.now) (tape (terms (R.ranked self.old.book.ranking)) (market_of self.old (B.quotes board.old)) (calls (lines_in file.now)))) }
+        ensures wrote { Wrote page.old page.new (entries_text (lines_in file.now) (tape (terms (R.ranked self.old.book.ranking)) (market_of self.old (B.quotes board.old)) (calls (lines_in file.now)))) }
+        ensures market { market_of self.new (B.quotes board.new) ≡ after (terms (R.ranked self.old.book.ranking)) (market_of self.old (B.quotes board.old)) (calls (lines_in file.now)) }
+    {
+        for index in 0..count {
+            let body = body_at(file, index).unwrap();
+            self.play(&body, board, page);
+        }
+    }
 }
 
 // Runs the session of a file over a fresh book and a board, and answers the length of the listing.
@@ -165,26 +159,18 @@ pub fn run<R: Ranking + Copy, B: Board>(
     if listing.len() < LISTING_BYTES {
         return Err(Refusal::ShortListing);
     }
-    let count = match check_file(file) {
-        Ok(count) => count,
-        Err(refusal) => return Err(refusal),
+    let count = check_file(file)?;
+    let mut session = Session {
+        book: Book::make(ranking, &[NO_ORDER; CELLS], &[NO_ORDER; CELLS]).unwrap(),
+        bids: [NO_ORDER; CELLS],
+        offers: [NO_ORDER; CELLS],
+        report: [NO_ROW; REPORT_ROWS],
     };
-    let mut bids = [NO_ORDER; CELLS];
-    let mut offers = [NO_ORDER; CELLS];
-    let mut report = [NO_ROW; REPORT_ROWS];
-    let mut book = Book::make(ranking, &bids, &offers).unwrap();
-    let at = play_all(
-        &mut book,
-        file,
-        count,
-        &mut bids,
-        &mut offers,
-        board,
-        &mut report,
-        listing,
-    );
-    let lit = book.light(&bids, &offers).unwrap();
-    Ok(write_light(listing, at, lit))
+    let mut page = Page::new(listing);
+    session.play_all(file, count, board, &mut page);
+    let lit = session.book.light(&session.bids, &session.offers).unwrap();
+    page.light(lit);
+    Ok(page.written)
 }
 
 // The session that the rig plays: size-time, and a board without a quotation.
@@ -207,7 +193,11 @@ pub fn print_session(file: &[u8], page: &mut [u8; LISTING_BYTES]) -> usize
 {
     match run_session(file, page) {
         Ok(length) => length,
-        Err(refusal) => write_refusal(page, refusal),
+        Err(refusal) => {
+            let mut page = Page::new(page);
+            page.refusal(refusal);
+            page.written
+        }
     }
 }
 
