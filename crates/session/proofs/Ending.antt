@@ -21,14 +21,14 @@ module _ (ranking : Ranking) (b : Quotes) (lines : List Line) (old new : List �
       → r ≡ answer_of ranking b (cond short (Err ShortListing) (refused lines o))
       → new ≡ listing_after ranking b (cond short (Err ShortListing) (refused lines o)) old
       → Short r → Ended (cond short (Some ShortListing) o) old new r
-  ended true o (Ok n) room e l s = absurd (let z : ◌≡◌ {A = ℕ} 0 1 = cc in omega arith)
+  ended true o (Ok n) room e l s = cc
   ended true o (Err f) room e l s = (cc, l)
   ended false None (Ok n) room e l s =
       let k : n ≡ length (session_text ranking b lines) = cc in
       let h = room refl in
       (refl, omega arith, omega arith, rw k (rw l (drop-append_seam (session_text ranking b lines) _)))
-  ended false None (Err f) room e l s = absurd (let z : ◌≡◌ {A = ℕ} 0 1 = cc in omega arith)
-  ended false (Some x) (Ok n) room e l s = absurd (let z : ◌≡◌ {A = ℕ} 0 1 = cc in omega arith)
+  ended false None (Err f) room e l s = cc
+  ended false (Some x) (Ok n) room e l s = cc
   ended false (Some x) (Err f) room e l s = (cc, l)
 
 pub has_ran :

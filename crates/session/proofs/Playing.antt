@@ -1,6 +1,5 @@
 -- The lines of a session played one by one: what is written, and the text of those that are left, make the whole. Assumes nothing.
 use Rattle.std.proofs.Common.{◌≡◌, ℕ, zero, suc, ◌+◌, ◌<◌, ◌≤◌, true, List, [], ◌∷◌, ◌++◌, length, drop, is_some, Some, None, Ok, Err, Option, Result, sym, refl, ap, ◌∙◌, subst, append_assoc, append-nil, arith, length-append, length-take}
-use Rattle.std.specs.List.{AllByRecursion}
 use Rattle.std.proofs.lemmas.List.{drop_all}
 use Rattle.std.proofs.lemmas.Bool.{cond_both}
 use Rattle.market.specs.declared.types.Refusal.{Refusal}
@@ -14,7 +13,7 @@ use Rattle.rules.specs.declared.types.Order.{Order}
 use Rattle.rules.specs.declared.types.Row.{Row}
 use Rattle.rules.specs.declared.types.Call.{Call}
 use Rattle.rules.specs.declared.types.Call.TheVariants as call
-use Rattle.rules.specs.Calls.{Market, Outcome, Terms, of_side, outcome, decided, cells_refusal, rows_in, arriving, enter_refusal, settled, enter, at_rest, leaves, cut, cut_to, cut_stayed, cut_refusal, cancel, cancel_refusal, cancelled, post, post_accepted, apply, lit}
+use Rattle.rules.specs.Calls.{Market, Outcome, Terms, of_side, outcome, decided, rows_in, arriving, enter_refusal, settled, enter, at_rest, leaves, cut, cut_to, cut_stayed, cut_refusal, cancel, cancel_refusal, cancelled, post, post_accepted, apply, lit}
 use Rattle.rules.specs.Sweeps.{standing, measured_sweep}
 use Rattle.law.specs.Law.{entry, after, tape}
 use Rattle.book.specs.declared.book.Book.{Book}
@@ -34,7 +33,7 @@ light_right t m [] = refl
 light_right t m (c ∷ cs) = light_right t (apply t m c.0 c.1).market cs
 
 drop_nth : {X : Type 0} (xs : List X) (i : ℕ) (x : X) → nth i xs ≡ Some x → drop i xs ≡ x ∷ drop (i + 1) xs
-drop_nth [] i x e = absurd (let z : ◌≡◌ {A = ℕ} 0 1 = cc in omega arith)
+drop_nth [] i x e = cc
 drop_nth (y ∷ ys) zero x e = let j : y ≡ x = cc in ap (λ z. z ∷ ys) j
 drop_nth (y ∷ ys) (suc i) x e =
     let k : suc (i + 1) ≡ suc i + 1 = omega arith in
@@ -83,7 +82,7 @@ abbrev Tallied : Result Accepted Refusal → List Row → Type 0
 Tallied r rows = (a : Accepted) → r ≡ Ok a → a.rows ≡ length rows
 
 refused_tallied : (e : Refusal) (rows : List Row) → Tallied (Err e) rows
-refused_tallied e rows a f = absurd (let z : ◌≡◌ {A = ℕ} 0 1 = cc in omega arith)
+refused_tallied e rows a f = cc
 
 accepted_tallied : (w : Accepted) (rows : List Row) → w.rows ≡ length rows → Tallied (Ok w) rows
 accepted_tallied w rows h a f = let j : w ≡ a = cc in ap (λ (x : Accepted). x.rows) (sym j) ∙ h
@@ -116,15 +115,6 @@ tallied t m (call.Cut arrival shares) room = decided_tallied (cut_refusal (at_re
 tallied t m (call.Cancel arrival) room = decided_tallied (cancel_refusal (at_rest arrival m)) m (cancelled m (at_rest arrival m)) (cancelled_tallied m (at_rest arrival m))
 tallied t m (call.Post k side price shares) room = post_tallied (post_answer k price shares)
 
--- One call, over sides of 128 cells and a report of 144 rows.
-pub call_gives : (t : Terms) (m : Market) (c d : Call) (bids offers room : ℕ) (o : Outcome) → (bids ≡ 128) × (offers ≡ 128) × (room ≡ 144) → c ≡ d → o ≡ decided (cells_refusal bids offers) m (apply t m c room) → o ≡ apply t m d 144
-call_gives t m c d bids offers room o h e given =
-    given
-    ∙ ap (λ n. decided (cells_refusal n offers) m (apply t m c room)) h.0
-    ∙ ap (λ n. decided (cells_refusal 128 n) m (apply t m c room)) h.1
-    ∙ ap (λ n. apply t m c n) h.2
-    ∙ ap (λ x. apply t m x 144) e
-
 -- an answer speaks of no more rows than the report has
 pub rows_there : (t : Terms) (m n : Market) (c : Call) (r : Result Accepted Refusal) (report : List Row) → outcome r (rows_in r report) n ≡ apply t m c 144 → rows_count r ≤ length report
 rows_there t m n c (Ok a) report e =
@@ -132,10 +122,6 @@ rows_there t m n c (Ok a) report e =
     let same = ap (λ (o : Outcome). length o.rows) e in
     omega (arith, tallied t m c 144 a is, same, length-take a.rows report)
 rows_there t m n c (Err f) report e = omega arith
-
-pub rows_few : (r : Result Accepted Refusal) (report : List Row) → length (rows_in r report) ≤ length report
-rows_few (Ok a) report = omega (arith, length-take a.rows report)
-rows_few (Err f) report = omega arith
 
 -- what is written of a call is the text of its entry
 pub entry_is : (line : Line) {o : Outcome} {label : List ℕ} {r : Result Accepted Refusal} {rows listed : List Row} {m : Market} → label ≡ label_text line → listed ≡ rows → outcome r rows m ≡ o → answer_text label r ++ rows_text listed ≡ entry_text line (entry (call_of line) 144 o)
@@ -153,10 +139,5 @@ body_there None lines i h e = absurd (never lines i h e)
   where
     never : (lines : List Line) (i : ℕ) → i < length lines → ◌≡◌ {A = Option Line} None (nth i lines) → ⊥
     never [] i h e = omega arith
-    never (line ∷ lines) zero h e = let z : ◌≡◌ {A = ℕ} 0 1 = cc in omega arith
+    never (line ∷ lines) zero h e = cc
     never (line ∷ lines) (suc i) h e = never lines i (omega arith) e
-
-pub all_nth : (P : Line → Type 0) (lines : List Line) (i : ℕ) (line : Line) → AllByRecursion P lines → nth i lines ≡ Some line → P line
-all_nth P [] i line h e = absurd (let z : ◌≡◌ {A = ℕ} 0 1 = cc in omega arith)
-all_nth P (l ∷ lines) zero line h e = let j : l ≡ line = cc in subst P j h.0
-all_nth P (l ∷ lines) (suc i) line h e = all_nth P lines i line h.1 e

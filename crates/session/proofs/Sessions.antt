@@ -26,7 +26,7 @@ use Rattle.session.proofs.Playing.{light_right}
 -- the count that an accepted file is answered is that of its lines
 pub lines_counted : (r : Result (List Line) Refusal) (n : ℕ) → Ok n ≡ counted r → (r ≡ Ok (lines_read r)) × (n ≡ length (lines_read r))
 lines_counted (Ok lines) n e = (refl, let k : n ≡ length lines = cc in k)
-lines_counted (Err f) n e = absurd (let z : ◌≡◌ {A = ℕ} 0 1 = cc in omega arith)
+lines_counted (Err f) n e = cc
 
 light_short : (b : Bool) → length (light_text b) ≡ 5
 light_short b = elim b as (λ v. length (light_text v) ≡ 5) [ true ↦ refl | false ↦ refl ]
@@ -49,7 +49,7 @@ refusal_printed {p} {q} {e} room file old mid enough answer kept start is_mid w 
     (length_is ∙ ap length text, rw (← text) (wrote_whole old start (is_mid ∙ same) w))
   where
     refused_so : (s : Result (List Line) Refusal) → Err e ≡ answer_of size_time no_quotes s → s ≡ Err e
-    refused_so (Ok lines) h = absurd (let z : ◌≡◌ {A = ℕ} 0 1 = cc in omega arith)
+    refused_so (Ok lines) h = cc
     refused_so (Err f) h = let k : f ≡ e = cc in ap (λ (x : Refusal). Err x) k
 
 -- A session of a file that is read, of `count` lines, over a book made with a ranking, and the market

@@ -10,7 +10,7 @@ ghost use Rattle.session.specs.Calls.{call_of};
 ghost use Rattle.files.specs.Files.{read_file, lines_in};
 ghost use Rattle.session.specs.Listing.{label_text, entry_text, entries_text};
 ghost use Rattle.session.specs.Pages.{HasRoom, Wrote};
-ghost use Rattle.session.specs.Markets.{market_of};
+ghost use Rattle.session.specs.Markets.{market_of, outcome_of, played_text};
 ghost use Rattle.session.specs.Sessions.{rows_count, calls, session_lines, answer_of, listing_after, quotes_after, written_over, no_quotes, printed, FairSession, Short, Ran, host_number};
 
 use crate::listing::Page;
@@ -112,9 +112,9 @@ struct Session<R> {
 impl<R: Ranking + Copy> Session<R> {
     // Makes the call of a body and writes its line and its rows.
     fn play<B: Board>(&mut self, body: &Body, board: &mut B, page: &mut Page)
-        requires { let line = line_of body.now in HasRoom page.old (entry_text line (entry (call_of line) 144 (apply (terms (R.ranked self.old.book.ranking)) (market_of self.old (B.quotes board.old)) (call_of line) 144))) }
-        ensures wrote { let line = line_of body.now in Wrote page.old page.new (entry_text line (entry (call_of line) 144 (apply (terms (R.ranked self.old.book.ranking)) (market_of self.old (B.quotes board.old)) (call_of line) 144))) }
-        ensures market { market_of self.new (B.quotes board.new) ≡ (apply (terms (R.ranked self.old.book.ranking)) (market_of self.old (B.quotes board.old)) (call_of (line_of body.now)) 144).market }
+        requires { HasRoom page.old (played_text (R.ranked self.old.book.ranking) (market_of self.old (B.quotes board.old)) (line_of body.now)) }
+        ensures wrote { Wrote page.old page.new (played_text (R.ranked self.old.book.ranking) (market_of self.old (B.quotes board.old)) (line_of body.now)) }
+        ensures market { market_of self.new (B.quotes board.new) ≡ (outcome_of (R.ranked self.old.book.ranking) (market_of self.old (B.quotes board.old)) (line_of body.now)).market }
         ensures ranking { self.new.book.ranking ≡ self.old.book.ranking }
     {
         let answer = self.book.apply(
