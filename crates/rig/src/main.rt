@@ -10,8 +10,8 @@ fn play(rt: &HostRuntime) -> anyhow::Result<()> {
     let mut file = [0u8; INPUT_BYTES];
     let mut page = [0u8; LISTING_BYTES];
     let used = read_input(&mut rt.stdin(), &mut file)?;
-    let length = print_session(&file[0..used], &mut page);
-    rt.stdout().write_all(&page[0..length])?;
+    let length = print_session(&file[..used], &mut page);
+    rt.stdout().write_all(&page[..length])?;
     Ok(())
 }
 

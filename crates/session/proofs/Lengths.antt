@@ -1,7 +1,8 @@
 -- How long the text of a session is. Rests on the ranges of the figures of a tape and on the count of its rows.
-use Rattle.std.proofs.Common.{◌≡◌, ℕ, zero, suc, ◌+◌, ◌*◌, ◌^◌, ◌<◌, ◌≤◌, List, [], ◌∷◌, ◌++◌, length, Some, None, Ok, Err, Option, Result, refl, arith, lit≤, length-append}
+use Rattle.std.proofs.Common.{◌≡◌, ℕ, zero, suc, ◌+◌, ◌*◌, ◌/◌, ◌%◌, ◌^◌, max, decimal, ap, ◌<◌, ◌≤◌, List, [], ◌∷◌, ◌++◌, length, Some, None, Ok, Err, Option, Result, refl, arith, lit≤, length-append}
 use Rattle.std.specs.List.{AllByRecursion}
-use Rattle.std.proofs.lemmas.Fmt.{length-decimal-le}
+use Rattle.std.proofs.Math.Nat.{pow-succ'}
+use Rattle.std.proofs.lemmas.Fmt.{decimal_digit, decimal_step, length-decimal-le}
 use Rattle.std.proofs.lemmas.Bool.Decides.{nat_tests}
 use Rattle.std.proofs.ByRecursion.{All-weaker}
 use Rattle.market.specs.declared.types.Side.{Side}
@@ -25,6 +26,15 @@ use Rattle.files.specs.Lines.{Line, New, Cut, Cancel, Post}
 use Rattle.session.specs.Listing.{figure_text, four_text, answer_text, row_text, rows_text, label_text, entries_text}
 use Rattle.session.specs.Sessions.{calls, session_tape}
 use Rattle.files.specs.Written.{LawfulLine, Fitting}
+
+-- how many digits a number has
+pub decimal_length : (k n : ℕ) → 10 ^ k ≤ max n 1 → n < 10 * 10 ^ k → n < 2 ^ 64 → length (decimal n) ≡ k + 1
+decimal_length zero n low high fits = ap length (decimal_digit n (omega arith))
+decimal_length (suc k) n low high fits =
+    let p = pow-succ' 10 k in
+    let rest = decimal_length k (n / 10) (omega arith) (omega arith) (omega arith) in
+    let step = ap length (decimal_step n (omega arith) fits) in
+    omega (arith, length-append (decimal (n / 10)) ((48 + n % 10) ∷ []))
 
 figure_short : (n : ℕ) → n ≤ 1000000 → length (figure_text n) ≤ 8
 figure_short n h = let k = length-decimal-le 7 n (omega arith) (omega arith) (omega arith) in omega arith

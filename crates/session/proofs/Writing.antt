@@ -1,6 +1,7 @@
 -- Texts written one behind another on a page. Assumes nothing.
-use Rattle.std.proofs.Common.{◌≡◌, ℕ, ◌+◌, ◌<◌, List, [], ◌++◌, length, get_or, take, sym, refl, ap, ◌∙◌, subst, append_assoc, append-nil, arith, length-append}
-use Rattle.std.proofs.lemmas.List.{take_more, flat_map_more}
+use Rattle.std.proofs.Common.{◌≡◌, ℕ, ◌+◌, ◌<◌, List, [], ◌++◌, length, get_or, take, drop, sym, refl, ap, ◌∙◌, subst, append_assoc, append-nil, arith, length-append, length-drop}
+use Rattle.std.proofs.Math.Seq.{take-append_seam, drop-append_seam}
+use Rattle.std.proofs.lemmas.List.{length-take-le, take_more, flat_map_more}
 use Rattle.std.proofs.lemmas.List.Folds.{length-flat_map-take}
 use Rattle.shelf.proofs.Cells.{drop_later}
 use Rattle.rules.specs.declared.types.Row.{Row}
@@ -17,6 +18,21 @@ wrote_then {p} {q} {r} {t} {u} w v =
       end = omega arith;
       front = v.front ∙ ap (λ x. x ++ u) w.front ∙ append_assoc (take p.written p.bytes.now) t u;
       behind = v.behind ∙ drop_later q.bytes.now p.bytes.now q.written r.written (omega arith) w.behind;
+    }
+
+-- text that stands behind what was written so far, and before what stood behind it
+pub wrote_so : {p q : Page} {text : List ℕ} → q.bytes.ghost_name ≡ p.bytes.ghost_name → HasRoom p text → q.written ≡ p.written + length text → q.bytes.now ≡ take p.written p.bytes.now ++ (text ++ drop q.written p.bytes.now) → Wrote p q text
+wrote_so {p} {q} {text} same room end is =
+    let old = take p.written p.bytes.now in
+    let rest = drop q.written p.bytes.now in
+    let whole : q.bytes.now ≡ (old ++ text) ++ rest = is ∙ sym (append_assoc old text rest) in
+    let long : q.written ≡ length (old ++ text) = omega (arith, length-append old text, length-take-le p.written p.bytes.now (omega arith)) in
+    record {
+      same_bytes = same;
+      same_length = omega (arith, ap length whole, length-append (old ++ text) rest, length-drop q.written p.bytes.now, long);
+      end = end;
+      front = ap (λ n. take n q.bytes.now) long ∙ ap (take (length (old ++ text))) whole ∙ take-append_seam (old ++ text) rest;
+      behind = ap (λ n. drop n q.bytes.now) long ∙ ap (drop (length (old ++ text))) whole ∙ drop-append_seam (old ++ text) rest;
     }
 
 pub wrote_none : (p : Page) → Wrote p p []

@@ -1,7 +1,7 @@
 // Writing the listing: a line for each call, a line for each of its rows, and the last line with
 // the Liquidity Identifier.
 
-use itoa::Buffer;
+use itoa::write_digits;
 use market::types::Refusal;
 use rules::types::{Accepted, Row};
 
@@ -48,8 +48,9 @@ impl<'a> Page<'a> {
         requires { HasRoom self.old (decimal n) }
         ensures { Wrote self.old self.new (decimal n) }
     {
-        let mut digits = Buffer::new();
-        self.text(digits.format(n).as_bytes());
+        let end = self.written + n.max(1).ilog10() as usize + 1;
+        let _ = write_digits(u64::from(n), self.bytes, end);
+        self.written = end;
     }
 
     // A space and a number.
