@@ -1,4 +1,5 @@
-// One side of a board: for each market 1 to 16, nothing or one protected quotation.
+// One side of a board: for each market 1 to 16, nothing or one protected quotation. It is no part
+// of what a renter brings, which is a whole board.
 ghost use Rattle.std.specs.Prelude.{◌≡◌, ℕ, true, None, Option};
 ghost use Rattle.market.specs.declared.types.Side.{Side};
 ghost use Rattle.board.specs.declared.types.Quote.{Quote};

@@ -1,4 +1,4 @@
-// A board of two sides, which are kept in the same way.
+// A board of two sides, whatever keeps each of them: the plate and the ladder are boards of this kind.
 ghost use Rattle.std.specs.Prelude.{◌≡◌, ℕ, true, None};
 ghost use Rattle.market.specs.declared.types.Side.TheVariants.{Buy, Sell};
 ghost use Rattle.market.specs.Words.{same_side};
