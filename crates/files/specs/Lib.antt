@@ -5,3 +5,4 @@ pub mod Written
 pub mod Packing
 pub mod Faults
 pub mod Cursors
+pub mod Calls

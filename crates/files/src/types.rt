@@ -1,5 +1,5 @@
 use market::types::Side;
-use rules::types::Kind;
+use rules::types::{Call, Kind};
 use std::error::Error;
 use std::fmt;
 
@@ -26,6 +26,45 @@ pub enum Body<'a> {
         price: u32,
         shares: u32,
     },
+}
+
+// The call that a body makes.
+impl From<&Body<'_>> for Call {
+    ghost use Rattle.std.specs.Prelude.{◌≡◌};
+    ghost use Rattle.files.specs.Calls.{call_of};
+    ghost use Rattle.files.specs.Lines.{line_of};
+
+    ghost from_gives = { λ body call. call ≡ call_of (line_of body.now) };
+
+    fn from(body: &Body<'_>) -> Call {
+        match *body {
+            Body::New {
+                side,
+                price,
+                kind,
+                shares,
+                ..
+            } => Call::Enter {
+                side,
+                price,
+                kind,
+                shares,
+            },
+            Body::Cut { arrival, shares } => Call::Cut { arrival, shares },
+            Body::Cancel { arrival } => Call::Cancel { arrival },
+            Body::Post {
+                market,
+                side,
+                price,
+                shares,
+            } => Call::Post {
+                market,
+                side,
+                price,
+                shares,
+            },
+        }
+    }
 }
 
 // Why a field of a body is malformed.

@@ -20,7 +20,7 @@ use Rattle.book.specs.declared.book.Book.{Book}
 use Rattle.book.specs.Held.{CellsKept}
 use Rattle.files.specs.declared.types.Body.{Body}
 use Rattle.files.specs.Lines.{Line, line_in}
-use Rattle.session.specs.Calls.{call_of}
+use Rattle.files.specs.Calls.{call_of}
 use Rattle.session.specs.Listing.{answer_text, rows_text, label_text, entry_text, entries_text, light_after}
 use Rattle.session.specs.declared.listing.Page.{Page}
 use Rattle.session.specs.Pages.{HasRoom, Wrote}

@@ -1,5 +1,4 @@
 pub mod Listing
 pub mod Pages
-pub mod Calls
 pub mod Markets
 pub mod Sessions

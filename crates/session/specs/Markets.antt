@@ -7,7 +7,7 @@ use Rattle.rules.specs.Calls.{Market, Outcome, terms, apply}
 use Rattle.law.specs.Law.{entry}
 use Rattle.book.specs.Held.{held}
 use Rattle.files.specs.Lines.{Line}
-use Rattle.session.specs.Calls.{call_of}
+use Rattle.files.specs.Calls.{call_of}
 use Rattle.session.specs.Listing.{entry_text}
 use Rattle.session.specs.declared.running.Session.{Session}
 

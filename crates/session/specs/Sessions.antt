@@ -12,7 +12,7 @@ use Rattle.rules.specs.Calls.{figures, terms, fresh}
 use Rattle.law.specs.Tape.{Entry, empty_account}
 use Rattle.law.specs.Law.{after, tape, FairTape}
 use Rattle.files.specs.Lines.{Line}
-use Rattle.session.specs.Calls.{call_of}
+use Rattle.files.specs.Calls.{call_of}
 use Rattle.files.specs.Files.{read_file, refusal_of}
 use Rattle.session.specs.Listing.{listing_text, refusal_text}
 

@@ -6,7 +6,7 @@ ghost use Rattle.rules.specs.Calls.{terms, apply, rows_in};
 ghost use Rattle.rules.specs.Rankings.{size_time};
 ghost use Rattle.law.specs.Law.{entry, after, tape};
 ghost use Rattle.files.specs.Lines.{line_of};
-ghost use Rattle.session.specs.Calls.{call_of};
+ghost use Rattle.files.specs.Calls.{call_of};
 ghost use Rattle.files.specs.Files.{read_file, lines_in};
 ghost use Rattle.session.specs.Listing.{label_text, entry_text, entries_text};
 ghost use Rattle.session.specs.Pages.{HasRoom, Wrote};
@@ -43,39 +43,6 @@ const NO_ROW: Row = Row::Fill {
     price: 0,
     shares: 0,
 };
-
-// The call that a body makes. A function, since an `impl From` has to stand in the crate of one of the types.
-fn call_of(body: &Body) -> Call
-    ensures { result ≡ call_of (line_of body.now) }
-{
-    match *body {
-        Body::New {
-            side,
-            price,
-            kind,
-            shares,
-            ..
-        } => Call::Enter {
-            side,
-            price,
-            kind,
-            shares,
-        },
-        Body::Cut { arrival, shares } => Call::Cut { arrival, shares },
-        Body::Cancel { arrival } => Call::Cancel { arrival },
-        Body::Post {
-            market,
-            side,
-            price,
-            shares,
-        } => Call::Post {
-            market,
-            side,
-            price,
-            shares,
-        },
-    }
-}
 
 // The label of a new order; other calls have a dash.
 fn label_of<'a>(body: &Body<'a>) -> &'a [u8]
@@ -118,7 +85,7 @@ impl<R: Ranking + Copy> Session<R> {
         ensures ranking { self.new.book.ranking ≡ self.old.book.ranking }
     {
         let answer = self.book.apply(
-            call_of(body),
+            Call::from(body),
             &mut self.bids,
             &mut self.offers,
             board,
