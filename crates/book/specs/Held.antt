@@ -3,12 +3,17 @@
 use Rattle.std.specs.Prelude.{◌≡◌, ℕ, max, List, length, take, drop, Some, None, Ok, Err, Option, Result}
 use Rattle.market.specs.declared.types.Refusal.{Refusal}
 use Rattle.board.specs.Quotes.{Quotes}
+use Rattle.shelf.specs.declared.Shelf.{Shelf}
 use Rattle.rules.specs.declared.types.Order.{Order}
 use Rattle.rules.specs.Calls.{Market, market}
 use Rattle.book.specs.declared.book.Book.{Book}
 
 abbrev pub held : {R : Type 0} → Book R → List Order → List Order → Quotes → Market
 held k bids offers b = market (take k.bids bids) (take k.offers offers) b k.arrivals
+
+-- the orders that stand on a shelf, first to last
+abbrev pub orders : Shelf Order → List Order
+orders s = take s.count s.cells.now
 
 -- each side has its 128 cells
 abbrev pub HasCells : List Order → List Order → Type 0

@@ -11,7 +11,7 @@ use super::kinds::is_too_small;
 use market::types::{Refusal, Side};
 use rules::ranking::{Ranking, Sided};
 use rules::types::{Accepted, Located, Order};
-use shelf::{put, take_out};
+use shelf::Shelf;
 
 // Whether a cut takes the order off: nothing stays open, or its ranking size falls below the least.
 fn leaves(order: &Order, shares: u32) -> bool
@@ -54,13 +54,14 @@ impl<R: Ranking + Copy> Book<R> {
         ensures bids { SameBehind self.old.bids self.new.bids bids.old bids.new }
         ensures offers { SameBehind self.old.offers self.new.offers offers.old offers.new }
     {
-        // The borrow checker follows no `&mut` that a `match` chose, so each arm makes the call.
-        match at.side {
-            Side::Buy => self.bids = take_out(bids, self.bids, at.place).unwrap_or(self.bids),
-            Side::Sell => self.offers = take_out(offers, self.offers, at.place).unwrap_or(
-                self.offers,
-            ),
-        }
+        let mut bids = Shelf::over(bids, self.bids);
+        let mut offers = Shelf::over(offers, self.offers);
+        let _ = match at.side {
+            Side::Buy => bids.take_out(at.place),
+            Side::Sell => offers.take_out(at.place),
+        };
+        self.bids = bids.count();
+        self.offers = offers.count();
     }
 
     // Puts an order on a side.
@@ -75,13 +76,14 @@ impl<R: Ranking + Copy> Book<R> {
             side,
             ranking: self.ranking,
         };
-        // As in `take_off`, each arm makes the call.
-        match side {
-            Side::Buy => self.bids = put(&precedence, bids, self.bids, order).unwrap_or(self.bids),
-            Side::Sell => self.offers = put(&precedence, offers, self.offers, order).unwrap_or(
-                self.offers,
-            ),
-        }
+        let mut bids = Shelf::over(bids, self.bids);
+        let mut offers = Shelf::over(offers, self.offers);
+        let _ = match side {
+            Side::Buy => bids.put(&precedence, order),
+            Side::Sell => offers.put(&precedence, order),
+        };
+        self.bids = bids.count();
+        self.offers = offers.count();
     }
 
     // Takes a resting order off.

@@ -1,13 +1,12 @@
 // An entry: sent back, or swept against the other side, and its residue rested or cancelled.
 ghost use Rattle.std.specs.Prelude.{◌≡◌, ℕ, ◌+◌, ◌<◌, ◌≤◌, true, false, length, take, drop, Some, Ok, Err, OnOk};
 ghost use Rattle.std.specs.Result.{result_err};
-ghost use Rattle.market.specs.Words.{opposite};
 ghost use Rattle.board.specs.Quotes.{Quotes};
 ghost use Rattle.rules.specs.Orders.{cancels};
 ghost use Rattle.rules.specs.Sweeps.{standing, swept, with_open, measured_sweep};
 ghost use Rattle.rules.specs.Calls.{cells_ok, cells_refusal, enter_refusal, own_after, entered, decided, outcome, rows_in, RowsKept, terms, enter, fresh};
 ghost use Rattle.book.specs.Counts.{count_of};
-ghost use Rattle.book.specs.Held.{held, CellsKept, KeptFrom};
+ghost use Rattle.book.specs.Held.{held, CellsKept, KeptFrom, orders};
 
 use super::book::Book;
 use super::kinds::{is_cancelled, is_ilo, is_olo, is_too_small, mtv_of};
@@ -16,10 +15,10 @@ use super::resting::check_cells;
 use super::sweeping::{Swept, measured_sweep, with_open};
 use board::Board;
 use market::types::{Refusal, Side};
-use market::{is_in_range, other};
+use market::is_in_range;
 use rules::ranking::{Ranking, Sided};
 use rules::types::{Accepted, Kind, Order, Row};
-use shelf::{empty, put};
+use shelf::{Shelf, empty};
 
 // Sends an entry back by the first case, in the order of the checks, that holds of it.
 #[tactic(auto, unfolding(rules::specs::Calls::enter_refusal))]
@@ -56,45 +55,43 @@ fn check_entry(incoming: &Order, arrivals: u32, count: usize, room: usize) -> Re
     Ok(())
 }
 
-// Rests the residue, or leaves the side as it is. Answers the side's count.
-fn settle<R: Ranking + Copy>(ranking: R, left: &Order, own: &mut [Order], count: usize) -> usize
-    requires { (count ≤ length own.old) × ((cancels left.now.kind ≡ false → count < length own.old)) }
-    ensures stands { take result own.new ≡ own_after (R.ranked ranking) left.now (take count own.old) }
-    ensures within { result ≤ length own.old }
-    ensures behind { KeptFrom result own.old own.new }
+// Rests the residue, or leaves the side as it is.
+fn settle<R: Ranking + Copy>(ranking: R, left: &Order, own: &mut Shelf<'_, Order>)
+    requires { cancels left.now.kind ≡ false → own.old.count < length own.old.cells.now }
+    ensures same { own.new.cells.ghost_name ≡ own.old.cells.ghost_name }
+    ensures stands { orders own.new ≡ own_after (R.ranked ranking) left.now (orders own.old) }
+    ensures behind { KeptFrom own.new.count own.old.cells.now own.new.cells.now }
 {
     if left.open == 0 || is_cancelled(left.kind) {
-        return count;
+        return;
     }
     let order = Sided {
         side: left.side,
         ranking,
     };
-    put(&order, own, count, *left).unwrap_or(count)
+    let _ = own.put(&order, *left);
 }
 
-// Sweeps the other side and settles the residue on the entry's own. Answers what the sweep left,
-// and how many orders rest on the entry's own side after it.
+// Sweeps the other side and settles the residue on the entry's own.
 fn trade<R: Ranking + Copy, B: Board>(
     ranking: R,
     incoming: &Order,
-    own: &mut [Order],
-    own_count: usize,
-    opp: &mut [Order],
-    opp_count: usize,
+    own: &mut Shelf<'_, Order>,
+    opp: &mut Shelf<'_, Order>,
     board: &mut B,
     report: &mut [Row],
-) -> (Swept, usize)
-    requires { (own_count ≤ length own.old) × (((cancels incoming.now.kind ≡ false → own_count < length own.old)) × ((opp_count ≤ 128) × ((opp_count ≤ length opp.old) × (144 ≤ length report.old)))) }
-    ensures swept { swept (take result.0.rows report.new) (standing (with_open result.0.left.«open» incoming.now) (take own_count own.old) (take result.0.left.used opp.new) (B.quotes board.new)) ≡ measured_sweep (standing incoming.now (take own_count own.old) (take opp_count opp.old) (B.quotes board.old)) }
-    ensures own { take result.1 own.new ≡ own_after (R.ranked ranking) (with_open result.0.left.«open» incoming.now) (take own_count own.old) }
-    ensures counts { (result.1 ≤ length own.old) × (result.0.left.used ≤ opp_count) × (result.0.rows ≤ 144) }
-    ensures behind { KeptFrom result.0.rows report.old report.new × KeptFrom opp_count opp.old opp.new × KeptFrom result.1 own.old own.new }
+) -> Swept
+    requires { (cancels incoming.now.kind ≡ false → own.old.count < length own.old.cells.now) × ((opp.old.count ≤ 128) × (144 ≤ length report.old)) }
+    ensures same { (own.new.cells.ghost_name ≡ own.old.cells.ghost_name) × (opp.new.cells.ghost_name ≡ opp.old.cells.ghost_name) }
+    ensures swept { swept (take result.rows report.new) (standing (with_open result.«open» incoming.now) (orders own.old) (orders opp.new) (B.quotes board.new)) ≡ measured_sweep (standing incoming.now (orders own.old) (orders opp.old) (B.quotes board.old)) }
+    ensures own { orders own.new ≡ own_after (R.ranked ranking) (with_open result.«open» incoming.now) (orders own.old) }
+    ensures within { (opp.new.count ≤ opp.old.count) × (result.rows ≤ 144) }
+    ensures behind { KeptFrom result.rows report.old report.new × KeptFrom opp.old.count opp.old.cells.now opp.new.cells.now × KeptFrom own.new.count own.old.cells.now own.new.cells.now }
 {
-    let swept = measured_sweep(incoming, board, &own[..own_count], opp, opp_count, report);
-    let residue = with_open(incoming, swept.left.open);
-    let rests = settle(ranking, &residue, own, own_count);
-    (swept, rests)
+    let swept = measured_sweep(incoming, board, own.standing(), opp, report);
+    let residue = with_open(incoming, swept.open);
+    settle(ranking, &residue, own);
+    swept
 }
 
 // What an entry answers, by what its sweep left of it.
@@ -139,18 +136,6 @@ impl<R: Ranking + Copy> Book<R> {
         }
     }
 
-    // Notes an accepted entry, and the new counts of its own side and of the other.
-    fn accept(&mut self, side: Side, own: usize, opp: usize)
-        requires { (own ≤ 128) × ((opp ≤ 128) × (self.old.arrivals < 1000000)) }
-        ensures { (self.new.ranking ≡ self.old.ranking) × (self.new.bids ≡ count_of side own opp) × (self.new.offers ≡ count_of (opposite side) own opp) × (self.new.arrivals ≡ self.old.arrivals + 1) }
-    {
-        (self.bids, self.offers) = match side {
-            Side::Buy => (own, opp),
-            Side::Sell => (opp, own),
-        };
-        self.arrivals += 1;
-    }
-
     // Enters an order: sends it back, or sweeps, and rests or cancels the residue.
     pub fn enter<B: Board>(
         &mut self,
@@ -177,14 +162,17 @@ impl<R: Ranking + Copy> Book<R> {
             open: shares,
         };
         check_entry(&incoming, self.arrivals, self.count(side), report.len())?;
-        let (own, opp) = (self.count(side), self.count(other(side)));
         let ranking = self.ranking;
+        let mut bids = Shelf::over(bids, self.bids);
+        let mut offers = Shelf::over(offers, self.offers);
         // The borrow checker follows no `&mut` that a `match` chose, so each arm makes the call.
-        let (swept, rests) = match side {
-            Side::Buy => trade(ranking, &incoming, bids, own, offers, opp, board, report),
-            Side::Sell => trade(ranking, &incoming, offers, own, bids, opp, board, report),
+        let swept = match side {
+            Side::Buy => trade(ranking, &incoming, &mut bids, &mut offers, board, report),
+            Side::Sell => trade(ranking, &incoming, &mut offers, &mut bids, board, report),
         };
-        self.accept(side, rests, swept.left.used);
-        Ok(answer(&with_open(&incoming, swept.left.open), swept.rows))
+        self.bids = bids.count();
+        self.offers = offers.count();
+        self.arrivals += 1;
+        Ok(answer(&with_open(&incoming, swept.open), swept.rows))
     }
 }

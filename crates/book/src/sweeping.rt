@@ -1,11 +1,11 @@
 // The sweep of an entry: routes and fills, one at a time, until nothing is left of it or nothing
-// may trade. The cells of the other side are lent, so the count of those in use travels beside them.
+// may trade. The other side is a shelf, which each fill makes shorter or leaves as long as it was.
 ghost use Rattle.std.specs.Prelude.{◌≡◌, ℕ, ◌+◌, ◌-◌, ◌<◌, ◌≤◌, min, not, length, take, drop, Some, None, nat_le};
 ghost use Rattle.market.specs.Words.{opposite};
 ghost use Rattle.rules.specs.declared.types.Row.TheVariants.{Fill, Route};
 ghost use Rattle.rules.specs.Orders.{mtv_of};
 ghost use Rattle.rules.specs.Trading.{volume};
-ghost use Rattle.book.specs.Held.{KeptFrom};
+ghost use Rattle.book.specs.Held.{KeptFrom, orders};
 ghost use Rattle.rules.specs.Sweeps.{with_open, taken, filled, standing, stepped, routed_first, next, sweep, swept, measured_sweep};
 
 use super::eligible::{bests, choose, volume};
@@ -15,21 +15,14 @@ use board::Board;
 use board::types::Best;
 use market::{is_better, other};
 use rules::types::{Order, Row};
+use shelf::Shelf;
 use shelf::types::Placed;
-use shelf::{replace, take_out};
 
-// What a trade leaves: the entry's open shares, and how many orders still stand on the other side.
-#[derive(Clone, Copy)]
-pub struct Left {
-    pub open: u32,
-    pub used: usize,
-}
-
-// What a whole sweep leaves, with its count of rows.
+// What a whole sweep leaves of an entry, with its count of rows.
 #[derive(Clone, Copy)]
 pub struct Swept {
     pub rows: usize,
-    pub left: Left,
+    pub open: u32,
 }
 
 // An order with other shares open.
@@ -49,11 +42,10 @@ fn routed_first(incoming: &Order, best: Option<Best>, price: u32) -> Option<Best
     })
 }
 
-// Routes the lesser of what is open and what the quotation has.
-fn route<B: Board>(incoming: &Order, board: &mut B, best: Best, used: usize) -> (Row, Left)
+// Routes the lesser of what is open and what the quotation has. Answers the row, and what stays open.
+fn route<B: Board>(incoming: &Order, board: &mut B, best: Best) -> (Row, u32)
     ensures row { result.0 ≡ Route incoming.now.arrival best.market best.quote.price (min incoming.now.«open» best.quote.shares) }
-    ensures left { result.1.«open» ≡ incoming.now.«open» - min incoming.now.«open» best.quote.shares }
-    ensures used { result.1.used ≡ used }
+    ensures left { result.1 ≡ incoming.now.«open» - min incoming.now.«open» best.quote.shares }
     ensures quotes { B.quotes board.new ≡ taken (B.quotes board.old) (opposite incoming.now.side) best.market (min incoming.now.«open» best.quote.shares) }
 {
     let shares = incoming.open.min(best.quote.shares);
@@ -64,66 +56,67 @@ fn route<B: Board>(incoming: &Order, board: &mut B, best: Best, used: usize) -> 
         price: best.quote.price,
         shares,
     };
-    let open = incoming.open - shares;
-    (row, Left { open, used })
+    (row, incoming.open - shares)
 }
 
-// Takes shares off a resting order, which leaves its side when nothing is left open. Answers the
-// side's count.
-fn lower(opp: &mut [Order], used: usize, chosen: Placed<Order>, shares: u32) -> usize
-    requires { (chosen.place < used) × (used ≤ length opp.old) }
-    ensures stands { take result opp.new ≡ filled (take used opp.old) chosen shares }
-    ensures within { result ≤ used }
-    ensures behind { KeptFrom used opp.old opp.new }
+// Takes shares off a resting order, which leaves its side when nothing is left open.
+fn lower(opp: &mut Shelf<'_, Order>, chosen: Placed<Order>, shares: u32)
+    requires { chosen.place < opp.old.count }
+    ensures same { opp.new.cells.ghost_name ≡ opp.old.cells.ghost_name }
+    ensures stands { orders opp.new ≡ filled (orders opp.old) chosen shares }
+    ensures within { opp.new.count ≤ opp.old.count }
+    ensures behind { KeptFrom opp.old.count opp.old.cells.now opp.new.cells.now }
 {
     if chosen.item.open <= shares {
-        return take_out(opp, used, chosen.place).unwrap_or(used);
+        let _ = opp.take_out(chosen.place);
+        return;
     }
     let left = with_open(&chosen.item, chosen.item.open - shares);
-    let _ = replace(opp, used, chosen.place, left);
-    used
+    let _ = opp.replace(chosen.place, left);
 }
 
-// Fills the lesser of what is open of both orders.
-fn fill(incoming: &Order, opp: &mut [Order], used: usize, chosen: Placed<Order>) -> (Row, Left)
-    requires { (chosen.place < used) × (used ≤ length opp.old) }
+// Fills the lesser of what is open of both orders. Answers the row, and what stays open.
+fn fill(incoming: &Order, opp: &mut Shelf<'_, Order>, chosen: Placed<Order>) -> (Row, u32)
+    requires { chosen.place < opp.old.count }
+    ensures same { opp.new.cells.ghost_name ≡ opp.old.cells.ghost_name }
     ensures row { result.0 ≡ Fill incoming.now.arrival chosen.item.arrival chosen.item.price (min incoming.now.«open» chosen.item.«open») }
-    ensures left { result.1.«open» ≡ incoming.now.«open» - min incoming.now.«open» chosen.item.«open» }
-    ensures used { result.1.used ≤ used }
-    ensures stands { take result.1.used opp.new ≡ filled (take used opp.old) chosen (min incoming.now.«open» chosen.item.«open») }
-    ensures behind { KeptFrom used opp.old opp.new }
+    ensures left { result.1 ≡ incoming.now.«open» - min incoming.now.«open» chosen.item.«open» }
+    ensures stands { orders opp.new ≡ filled (orders opp.old) chosen (min incoming.now.«open» chosen.item.«open») }
+    ensures within { opp.new.count ≤ opp.old.count }
+    ensures behind { KeptFrom opp.old.count opp.old.cells.now opp.new.cells.now }
 {
     let shares = incoming.open.min(chosen.item.open);
+    lower(opp, chosen, shares);
     let row = Row::Fill {
         incoming: incoming.arrival,
         resting: chosen.item.arrival,
         price: chosen.item.price,
         shares,
     };
-    let open = incoming.open - shares;
-    let used = lower(opp, used, chosen, shares);
-    (row, Left { open, used })
+    (row, incoming.open - shares)
 }
 
-// One step: none where nothing is open or nothing may trade; else a route or a fill.
+// One step: none where nothing is open or nothing may trade; else a route or a fill, with what stays
+// open.
 fn step<B: Board>(
     incoming: &Order,
     board: &mut B,
     own: &[Order],
-    opp: &mut [Order],
-    used: usize,
-) -> Option<(Row, Left)>
-    requires { used ≤ length opp.old }
-    ensures { elim result [ None ↦ (next (standing incoming.now own.now (take used opp.old) (B.quotes board.old)) ≡ None) × (opp.new ≡ opp.old) × (B.quotes board.new ≡ B.quotes board.old) | Some t ↦ (next (standing incoming.now own.now (take used opp.old) (B.quotes board.old)) ≡ Some (stepped t.0 (standing (with_open t.1.«open» incoming.now) own.now (take t.1.used opp.new) (B.quotes board.new)))) × (t.1.used ≤ used) × KeptFrom used opp.old opp.new ] }
+    opp: &mut Shelf<'_, Order>,
+) -> Option<(Row, u32)>
+    ensures same { opp.new.cells.ghost_name ≡ opp.old.cells.ghost_name }
+    ensures step { elim result [ None ↦ (next (standing incoming.now own.now (orders opp.old) (B.quotes board.old)) ≡ None) × (opp.new ≡ opp.old) × (B.quotes board.new ≡ B.quotes board.old) | Some t ↦ next (standing incoming.now own.now (orders opp.old) (B.quotes board.old)) ≡ Some (stepped t.0 (standing (with_open t.1 incoming.now) own.now (orders opp.new) (B.quotes board.new))) ] }
+    ensures within { opp.new.count ≤ opp.old.count }
+    ensures behind { KeptFrom opp.old.count opp.old.cells.now opp.new.cells.now }
 {
     if incoming.open == 0 {
         return None;
     }
     let bests = bests(board, incoming.side);
-    let chosen = choose(incoming, &bests, own, &opp[..used])?;
+    let chosen = choose(incoming, &bests, own, opp.standing())?;
     match routed_first(incoming, bests.other, chosen.item.price) {
-        Some(best) => Some(route(incoming, board, best, used)),
-        None => Some(fill(incoming, opp, used, chosen)),
+        Some(best) => Some(route(incoming, board, best)),
+        None => Some(fill(incoming, opp, chosen)),
     }
 }
 
@@ -132,29 +125,28 @@ fn sweep<B: Board>(
     incoming: &Order,
     board: &mut B,
     own: &[Order],
-    opp: &mut [Order],
-    used: usize,
+    opp: &mut Shelf<'_, Order>,
     report: &mut [Row],
 ) -> Swept
-    requires { (used ≤ length opp.old) × (144 ≤ length report.old) }
-    ensures swept { swept (take result.rows report.new) (standing (with_open result.left.«open» incoming.now) own.now (take result.left.used opp.new) (B.quotes board.new)) ≡ sweep 144 (standing incoming.now own.now (take used opp.old) (B.quotes board.old)) }
-    ensures used { (result.left.used ≤ used) × (result.rows ≤ 144) }
-    ensures behind { KeptFrom result.rows report.old report.new × KeptFrom used opp.old opp.new }
+    requires { 144 ≤ length report.old }
+    ensures same { opp.new.cells.ghost_name ≡ opp.old.cells.ghost_name }
+    ensures swept { swept (take result.rows report.new) (standing (with_open result.«open» incoming.now) own.now (orders opp.new) (B.quotes board.new)) ≡ sweep 144 (standing incoming.now own.now (orders opp.old) (B.quotes board.old)) }
+    ensures within { (opp.new.count ≤ opp.old.count) × (result.rows ≤ 144) }
+    ensures behind { KeptFrom result.rows report.old report.new × KeptFrom opp.old.count opp.old.cells.now opp.new.cells.now }
 {
-    let open = incoming.open;
-    let mut left = Left { open, used };
+    let mut open = incoming.open;
     // By the place of a row, which is also the count of those before it.
     for rows in 0..REPORT_ROWS {
-        let now = with_open(incoming, left.open);
-        let Some((row, next)) = step(&now, board, own, opp, left.used) else {
-            return Swept { rows, left };
+        let now = with_open(incoming, open);
+        let Some((row, left)) = step(&now, board, own, opp) else {
+            return Swept { rows, open };
         };
         report[rows] = row;
-        left = next;
+        open = left;
     }
     Swept {
         rows: REPORT_ROWS,
-        left,
+        open,
     }
 }
 
@@ -172,19 +164,20 @@ pub fn measured_sweep<B: Board>(
     incoming: &Order,
     board: &mut B,
     own: &[Order],
-    opp: &mut [Order],
-    used: usize,
+    opp: &mut Shelf<'_, Order>,
     report: &mut [Row],
 ) -> Swept
-    requires { (used ≤ 128) × ((used ≤ length opp.old) × (144 ≤ length report.old)) }
-    ensures swept { swept (take result.rows report.new) (standing (with_open result.left.«open» incoming.now) own.now (take result.left.used opp.new) (B.quotes board.new)) ≡ measured_sweep (standing incoming.now own.now (take used opp.old) (B.quotes board.old)) }
-    ensures used { (result.left.used ≤ used) × (result.rows ≤ 144) }
-    ensures behind { KeptFrom result.rows report.old report.new × KeptFrom used opp.old opp.new }
+    requires { (opp.old.count ≤ 128) × (144 ≤ length report.old) }
+    ensures same { opp.new.cells.ghost_name ≡ opp.old.cells.ghost_name }
+    ensures swept { swept (take result.rows report.new) (standing (with_open result.«open» incoming.now) own.now (orders opp.new) (B.quotes board.new)) ≡ measured_sweep (standing incoming.now own.now (orders opp.old) (B.quotes board.old)) }
+    ensures within { (opp.new.count ≤ opp.old.count) × (result.rows ≤ 144) }
+    ensures behind { KeptFrom result.rows report.old report.new × KeptFrom opp.old.count opp.old.cells.now opp.new.cells.now }
 {
-    if falls_short(incoming, board, &opp[..used]) {
-        let open = incoming.open;
-        let left = Left { open, used };
-        return Swept { rows: 0, left };
+    if falls_short(incoming, board, opp.standing()) {
+        return Swept {
+            rows: 0,
+            open: incoming.open,
+        };
     }
-    sweep(incoming, board, own, opp, used, report)
+    sweep(incoming, board, own, opp, report)
 }

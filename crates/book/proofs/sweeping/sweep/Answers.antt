@@ -6,21 +6,22 @@ use Rattle.book.proofs.sweeping.sweep.Goals as goal
 
 pub loop-rows-preserved : goal.loop-rows-preserved
 loop-rows-preserved g c =
-    let t = c.in-Some.ensures in
+    let t = c.step.ensures in
     let n = c.loop-rows.rows in
-    let e = rw c.with_open-now.ensures at t.0 in
+    let e = rw c.with_open-now.ensures at c.in-Some.ensures.step in
     let h : n < length c.loop-rows.report = omega arith in
     let k : 144 - n ≡ suc (144 - (n + 1)) = omega arith in
     let inv = c.loop-rows.invariant in (
       sweep_more c.loop-rows.report n (144 - n) _ _ _ _ _ h k e inv.0,
-      omega (arith, t.1, inv.1),
+      omega (arith, t.within, inv.1),
       drop-set-lt (n + 1) c.loop-rows.report n c.in-Some.row (omega arith) ∙ drop_later c.loop-rows.report c.args.report.now n (n + 1) (omega arith) inv.2,
-      drop_later c.step.new.opp c.loop-rows.opp c.loop-rows.left.used c.args.used inv.1 t.2 ∙ inv.3,
+      drop_later c.step.new.opp.cells.now c.loop-rows.opp.cells.now c.loop-rows.opp.count c.args.opp.now.count inv.1 t.behind ∙ inv.3,
+      t.same ∙ inv.4,
     )
 
 pub returns-in_default-clause-swept : goal.returns-in_default-clause-swept
 returns-in_default-clause-swept g c =
-    let t = c.in_default.ensures in
+    let t = c.in_default.ensures.step in
     let n = rw c.with_open-now.ensures at t.0 in
     rw (t.1, t.2) (sweep_ends _ _ _ _ n c.loop-rows.invariant.0)
 
