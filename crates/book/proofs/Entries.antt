@@ -6,13 +6,14 @@ use Rattle.market.specs.declared.types.Side.TheVariants.{Buy, Sell}
 use Rattle.market.specs.declared.types.Refusal.{Refusal}
 use Rattle.market.specs.Words.{opposite}
 use Rattle.board.specs.Quotes.{Quotes}
+use Rattle.shelf.specs.declared.Shelf.{Shelf}
 use Rattle.rules.specs.declared.types.Kind.{Kind}
 use Rattle.rules.specs.declared.types.Order.{Order}
 use Rattle.rules.specs.declared.types.Row.{Row}
 use Rattle.rules.specs.Sweeps.{Swept, standing, swept, with_open, measured_sweep}
 use Rattle.rules.specs.Calls.{Market, Terms, Outcome, market, of_side, by_sides, outcome, arriving, enter_refusal, cells_refusal, decided, settled, entered, own_after, enter}
 use Rattle.book.specs.Counts.{count_of}
-use Rattle.book.specs.Held.{HasCells}
+use Rattle.book.specs.Held.{HasCells, SameBehind, orders}
 
 -- what stands of a side is as long as its count
 pub own_count : (side : Side) (b o n : ℕ) (bids offers : List Order) (q : Quotes) → b ≤ length bids → o ≤ length offers → length (of_side side (market (take b bids) (take o offers) q n)) ≡ count_of side b o
@@ -22,6 +23,14 @@ own_count Sell b o n bids offers q h k = length-take-le o offers k
 -- with 128 cells on each side a call is decided by its own cases
 pub cells_pass : (bids offers : List Order) (m : Market) (o : Outcome) → HasCells bids offers → o ≡ decided (cells_refusal (length bids) (length offers)) m o
 cells_pass bids offers m o h = rw (h.0, h.1) refl
+
+-- the market by the counts and cells that were kept of the shelves of both sides
+pub market_left : (bids offers : List Order) (s t : Shelf Order) (m n k : ℕ) (b : Quotes) → m ≡ s.count → n ≡ t.count → bids ≡ s.cells.now → offers ≡ t.cells.now → market (take m bids) (take n offers) b k ≡ market (orders s) (orders t) b k
+market_left bids offers s t m n k b e f g h = rw (e, f, g, h) refl
+
+-- the cells that were kept of a shelf, behind what stood and stands
+pub behind_left : (old new : List Order) (s : Shelf Order) (n m : ℕ) → m ≡ s.count → new ≡ s.cells.now → SameBehind n s.count old s.cells.now → SameBehind n m old new
+behind_left old new s n m e f h = rw (e, f) h
 
 module _ (t : Terms) (m : Market) (side : Side) (price : ℕ) (kind : Kind) (shares room : ℕ) where
   abbrev i : Order
