@@ -69,10 +69,10 @@ fn lower(opp: &mut Shelf<'_, Order>, chosen: Placed<Order>, shares: u32)
 {
     if chosen.item.open <= shares {
         let _ = opp.take_out(chosen.place);
-        return;
+    } else {
+        let left = with_open(&chosen.item, chosen.item.open - shares);
+        let _ = opp.replace(chosen.place, left);
     }
-    let left = with_open(&chosen.item, chosen.item.open - shares);
-    let _ = opp.replace(chosen.place, left);
 }
 
 // Fills the lesser of what is open of both orders. Answers the row, and what stays open.
