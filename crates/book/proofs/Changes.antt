@@ -5,16 +5,20 @@ use Rattle.market.specs.declared.types.Side.{Side}
 use Rattle.market.specs.declared.types.Refusal.{Refusal}
 use Rattle.market.specs.declared.types.Refusal.TheVariants.{NotResting, CutShares}
 use Rattle.board.specs.Quotes.{Quotes, post_answer, posted, with_quote, if_ok}
+use Rattle.shelf.specs.declared.Shelf.{Shelf}
 use Rattle.rules.specs.declared.types.Order.{Order}
 use Rattle.rules.specs.declared.types.Located.{Located}
 use Rattle.rules.specs.Calls.{Market, Terms, Outcome, at_rest, outcome, decided, cancel_refusal, cancelled, cancel, cut_refusal, cut_to, cut_stayed, cut, leaves, market, post_accepted, post}
-use Rattle.book.specs.Held.{SameBehind}
+use Rattle.book.specs.Held.{SameBehind, Shortened}
 use Rattle.shelf.proofs.Cells.{drop_later}
 
 -- cells that two changes left behind what stood and stands; the first made no more stand
 pub behind_twice : (xs ys zs : List Order) (a b c : ℕ) → b ≤ a → SameBehind a b xs ys → SameBehind b c ys zs → SameBehind a c xs zs
 behind_twice xs ys zs a b c h e f =
     drop_later zs ys (max b c) (max a c) (omega arith) f ∙ drop_later ys xs (max a b) (max a c) (omega arith) e
+
+pub shortened_twice : (r s t : Shelf Order) → Shortened r s → Shortened s t → Shortened r t
+shortened_twice r s t e f = (omega (arith, e.0, f.0), drop_later t.cells.now s.cells.now s.count r.count e.0 f.1 ∙ e.1)
 
 -- sent back for the cells, or since the order does not rest; f is what the call gives by the order found
 sent_back : (m : Market) (f : Option Located → Outcome) (r : Option Refusal) (l : Option Located) (e : Refusal) → f None ≡ outcome (Err NotResting) [] m → Some e ≡ option_or r (cancel_refusal l) → outcome (Err e) [] m ≡ decided r m (f l)

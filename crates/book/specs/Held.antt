@@ -1,6 +1,6 @@
 -- The market that a book holds in the cells of its two sides and in a board, and what a call leaves
 -- of the cells. Rests on the calls of the rules.
-use Rattle.std.specs.Prelude.{◌≡◌, ℕ, max, List, length, take, drop, Some, None, Ok, Err, Option, Result}
+use Rattle.std.specs.Prelude.{◌≡◌, ℕ, ◌≤◌, max, List, length, take, drop, Some, None, Ok, Err, Option, Result}
 use Rattle.market.specs.declared.types.Refusal.{Refusal}
 use Rattle.board.specs.Quotes.{Quotes}
 use Rattle.shelf.specs.declared.Shelf.{Shelf}
@@ -22,6 +22,10 @@ HasCells bids offers = (length bids ≡ 128) × (length offers ≡ 128)
 -- from a place on, cells or rows keep what they had
 abbrev pub KeptFrom : {A : Type 0} → ℕ → List A → List A → Type 0
 KeptFrom n old new = drop n new ≡ drop n old
+
+-- no more orders stand on a shelf than stood there, and the cells behind those keep what they had
+abbrev pub Shortened : Shelf Order → Shelf Order → Type 0
+Shortened old new = (new.count ≤ old.count) × KeptFrom old.count old.cells.now new.cells.now
 
 -- the cells behind those where orders stood or stand keep what they had
 abbrev pub SameBehind : ℕ → ℕ → List Order → List Order → Type 0

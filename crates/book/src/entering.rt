@@ -6,7 +6,7 @@ ghost use Rattle.rules.specs.Orders.{cancels};
 ghost use Rattle.rules.specs.Sweeps.{standing, swept, with_open, measured_sweep};
 ghost use Rattle.rules.specs.Calls.{cells_ok, cells_refusal, enter_refusal, own_after, entered, decided, outcome, rows_in, RowsKept, terms, enter, fresh};
 ghost use Rattle.book.specs.Counts.{count_of};
-ghost use Rattle.book.specs.Held.{held, CellsKept, KeptFrom, orders};
+ghost use Rattle.book.specs.Held.{held, CellsKept, KeptFrom, orders, Shortened};
 
 use super::book::Book;
 use super::kinds::{is_cancelled, is_ilo, is_olo, is_too_small, mtv_of};
@@ -85,8 +85,8 @@ fn trade<R: Ranking + Copy, B: Board>(
     ensures same { (own.new.cells.ghost_name ≡ own.old.cells.ghost_name) × (opp.new.cells.ghost_name ≡ opp.old.cells.ghost_name) }
     ensures swept { swept (take result.rows report.new) (standing (with_open result.«open» incoming.now) (orders own.old) (orders opp.new) (B.quotes board.new)) ≡ measured_sweep (standing incoming.now (orders own.old) (orders opp.old) (B.quotes board.old)) }
     ensures own { orders own.new ≡ own_after (R.ranked ranking) (with_open result.«open» incoming.now) (orders own.old) }
-    ensures within { (opp.new.count ≤ opp.old.count) × (result.rows ≤ 144) }
-    ensures behind { KeptFrom result.rows report.old report.new × KeptFrom opp.old.count opp.old.cells.now opp.new.cells.now × KeptFrom own.new.count own.old.cells.now own.new.cells.now }
+    ensures rows { (result.rows ≤ 144) × KeptFrom result.rows report.old report.new }
+    ensures behind { Shortened opp.old opp.new × KeptFrom own.new.count own.old.cells.now own.new.cells.now }
 {
     let swept = measured_sweep(incoming, board, own.standing(), opp, report);
     let residue = with_open(incoming, swept.open);

@@ -5,7 +5,7 @@ ghost use Rattle.market.specs.Words.{opposite};
 ghost use Rattle.rules.specs.declared.types.Row.TheVariants.{Fill, Route};
 ghost use Rattle.rules.specs.Orders.{mtv_of};
 ghost use Rattle.rules.specs.Trading.{volume};
-ghost use Rattle.book.specs.Held.{KeptFrom, orders};
+ghost use Rattle.book.specs.Held.{KeptFrom, orders, Shortened};
 ghost use Rattle.rules.specs.Sweeps.{with_open, taken, filled, standing, stepped, routed_first, next, sweep, swept, measured_sweep};
 
 use super::eligible::{bests, choose, volume};
@@ -64,8 +64,7 @@ fn lower(opp: &mut Shelf<'_, Order>, chosen: Placed<Order>, shares: u32)
     requires { chosen.place < opp.old.count }
     ensures same { opp.new.cells.ghost_name ≡ opp.old.cells.ghost_name }
     ensures stands { orders opp.new ≡ filled (orders opp.old) chosen shares }
-    ensures within { opp.new.count ≤ opp.old.count }
-    ensures behind { KeptFrom opp.old.count opp.old.cells.now opp.new.cells.now }
+    ensures behind { Shortened opp.old opp.new }
 {
     if chosen.item.open <= shares {
         let _ = opp.take_out(chosen.place);
@@ -82,8 +81,7 @@ fn fill(incoming: &Order, opp: &mut Shelf<'_, Order>, chosen: Placed<Order>) -> 
     ensures row { result.0 ≡ Fill incoming.now.arrival chosen.item.arrival chosen.item.price (min incoming.now.«open» chosen.item.«open») }
     ensures left { result.1 ≡ incoming.now.«open» - min incoming.now.«open» chosen.item.«open» }
     ensures stands { orders opp.new ≡ filled (orders opp.old) chosen (min incoming.now.«open» chosen.item.«open») }
-    ensures within { opp.new.count ≤ opp.old.count }
-    ensures behind { KeptFrom opp.old.count opp.old.cells.now opp.new.cells.now }
+    ensures behind { Shortened opp.old opp.new }
 {
     let shares = incoming.open.min(chosen.item.open);
     lower(opp, chosen, shares);
@@ -106,8 +104,7 @@ fn step<B: Board>(
 ) -> Option<(Row, u32)>
     ensures same { opp.new.cells.ghost_name ≡ opp.old.cells.ghost_name }
     ensures step { elim result [ None ↦ (next (standing incoming.now own.now (orders opp.old) (B.quotes board.old)) ≡ None) × (opp.new ≡ opp.old) × (B.quotes board.new ≡ B.quotes board.old) | Some t ↦ next (standing incoming.now own.now (orders opp.old) (B.quotes board.old)) ≡ Some (stepped t.0 (standing (with_open t.1 incoming.now) own.now (orders opp.new) (B.quotes board.new))) ] }
-    ensures within { opp.new.count ≤ opp.old.count }
-    ensures behind { KeptFrom opp.old.count opp.old.cells.now opp.new.cells.now }
+    ensures behind { Shortened opp.old opp.new }
 {
     if incoming.open == 0 {
         return None;
@@ -131,8 +128,8 @@ fn sweep<B: Board>(
     requires { 144 ≤ length report.old }
     ensures same { opp.new.cells.ghost_name ≡ opp.old.cells.ghost_name }
     ensures swept { swept (take result.rows report.new) (standing (with_open result.«open» incoming.now) own.now (orders opp.new) (B.quotes board.new)) ≡ sweep 144 (standing incoming.now own.now (orders opp.old) (B.quotes board.old)) }
-    ensures within { (opp.new.count ≤ opp.old.count) × (result.rows ≤ 144) }
-    ensures behind { KeptFrom result.rows report.old report.new × KeptFrom opp.old.count opp.old.cells.now opp.new.cells.now }
+    ensures rows { (result.rows ≤ 144) × KeptFrom result.rows report.old report.new }
+    ensures behind { Shortened opp.old opp.new }
 {
     let mut open = incoming.open;
     // By the place of a row, which is also the count of those before it.
@@ -170,8 +167,8 @@ pub fn measured_sweep<B: Board>(
     requires { (opp.old.count ≤ 128) × (144 ≤ length report.old) }
     ensures same { opp.new.cells.ghost_name ≡ opp.old.cells.ghost_name }
     ensures swept { swept (take result.rows report.new) (standing (with_open result.«open» incoming.now) own.now (orders opp.new) (B.quotes board.new)) ≡ measured_sweep (standing incoming.now own.now (orders opp.old) (B.quotes board.old)) }
-    ensures within { (opp.new.count ≤ opp.old.count) × (result.rows ≤ 144) }
-    ensures behind { KeptFrom result.rows report.old report.new × KeptFrom opp.old.count opp.old.cells.now opp.new.cells.now }
+    ensures rows { (result.rows ≤ 144) × KeptFrom result.rows report.old report.new }
+    ensures behind { Shortened opp.old opp.new }
 {
     if falls_short(incoming, board, opp.standing()) {
         return Swept {

@@ -1,6 +1,7 @@
 use Rattle.std.proofs.Common.{◌≡◌, suc, ◌+◌, ◌-◌, ◌<◌, length, ◌∙◌, arith}
 use Rattle.std.proofs.lemmas.List.{drop-set-lt}
 use Rattle.book.proofs.Steps.{sweep_more, sweep_ends, sweep_full}
+use Rattle.book.proofs.Changes.{shortened_twice}
 use Rattle.shelf.proofs.Cells.{drop_later}
 use Rattle.book.proofs.sweeping.sweep.Goals as goal
 
@@ -13,10 +14,9 @@ loop-rows-preserved g c =
     let k : 144 - n ≡ suc (144 - (n + 1)) = omega arith in
     let inv = c.loop-rows.invariant in (
       sweep_more c.loop-rows.report n (144 - n) _ _ _ _ _ h k e inv.0,
-      omega (arith, t.within, inv.1),
-      drop-set-lt (n + 1) c.loop-rows.report n c.in-Some.row (omega arith) ∙ drop_later c.loop-rows.report c.args.report.now n (n + 1) (omega arith) inv.2,
-      drop_later c.step.new.opp.cells.now c.loop-rows.opp.cells.now c.loop-rows.opp.count c.args.opp.now.count inv.1 t.behind ∙ inv.3,
-      t.same ∙ inv.4,
+      drop-set-lt (n + 1) c.loop-rows.report n c.in-Some.row (omega arith) ∙ drop_later c.loop-rows.report c.args.report.now n (n + 1) (omega arith) inv.1,
+      shortened_twice c.args.opp.now c.loop-rows.opp c.step.new.opp inv.2 t.behind,
+      t.same ∙ inv.3,
     )
 
 pub returns-in_default-clause-swept : goal.returns-in_default-clause-swept
@@ -31,7 +31,7 @@ returns-clause-swept g c =
     let z : 144 - c.loop-rows.rows ≡ 0 = omega arith in
     rw e at (sweep_full _ _ _ _ z c.loop-rows.invariant.0)
 
-pub returns-clause-behind : goal.returns-clause-behind
-returns-clause-behind g c =
+pub returns-clause-rows : goal.returns-clause-rows
+returns-clause-rows g c =
     let e : c.loop-rows.rows ≡ 144 = omega arith in
-    (rw e at c.loop-rows.invariant.2, c.loop-rows.invariant.3)
+    (omega arith, rw e at c.loop-rows.invariant.1)

@@ -49,7 +49,7 @@ returns-clause-outcome g c =
     elim c.match-side.branch [
       | in-Buy w ↦
           let u = w.trade-swept in
-          let rows : u.result.rows ≤ length u.new.report = omega (arith, u.ensures.within.1, entry.passes.0) in
+          let rows : u.result.rows ≤ length u.new.report = omega (arith, u.ensures.rows.0, entry.passes.0) in
           rw (w.swept-is, w.bids-is, w.offers-is, w.board-is, w.report-is)
           (enter_left r m side c.args.price c.args.kind c.args.shares room
           c.count.result u.result.rows u.result.«open» (take u.result.rows u.new.report) (orders c.over-bids.result) (orders c.over-offers.result) (orders u.new.own) (orders u.new.opp) (g.B.Board.quotes u.new.board) _
@@ -57,7 +57,7 @@ returns-clause-outcome g c =
           n entry.value (length-take-le u.result.rows u.new.report rows) u.ensures.swept u.ensures.own)
       | in-Sell w ↦
           let u = w.trade-swept-in-Sell in
-          let rows : u.result.rows ≤ length u.new.report = omega (arith, u.ensures.within.1, entry.passes.0) in
+          let rows : u.result.rows ≤ length u.new.report = omega (arith, u.ensures.rows.0, entry.passes.0) in
           rw (w.swept-is, w.bids-is, w.offers-is, w.board-is, w.report-is)
           (enter_left r m side c.args.price c.args.kind c.args.shares room
           c.count.result u.result.rows u.result.«open» (take u.result.rows u.new.report) (orders c.over-offers.result) (orders c.over-bids.result) (orders u.new.own) (orders u.new.opp) (g.B.Board.quotes u.new.board) _
@@ -79,13 +79,13 @@ returns-clause-cells g c =
     elim c.match-side.branch [
       | in-Buy w ↦
           let u = w.trade-swept in
-          let own = drop_later u.new.own.cells.now c.over-bids.result.cells.now u.new.own.count (max k.bids u.new.own.count) (omega arith) u.ensures.behind.2 in
-          let opp = drop_later u.new.opp.cells.now c.over-offers.result.cells.now c.over-offers.result.count (max k.offers u.new.opp.count) (omega arith) u.ensures.behind.1 in
+          let own = drop_later u.new.own.cells.now c.over-bids.result.cells.now u.new.own.count (max k.bids u.new.own.count) (omega arith) u.ensures.behind.1 in
+          let opp = drop_later u.new.opp.cells.now c.over-offers.result.cells.now c.over-offers.result.count (max k.offers u.new.opp.count) (omega arith) u.ensures.behind.0.1 in
           rw (w.bids-is, w.offers-is) (own, opp)
       | in-Sell w ↦
           let u = w.trade-swept-in-Sell in
-          let own = drop_later u.new.own.cells.now c.over-offers.result.cells.now u.new.own.count (max k.offers u.new.own.count) (omega arith) u.ensures.behind.2 in
-          let opp = drop_later u.new.opp.cells.now c.over-bids.result.cells.now c.over-bids.result.count (max k.bids u.new.opp.count) (omega arith) u.ensures.behind.1 in
+          let own = drop_later u.new.own.cells.now c.over-offers.result.cells.now u.new.own.count (max k.offers u.new.own.count) (omega arith) u.ensures.behind.1 in
+          let opp = drop_later u.new.opp.cells.now c.over-bids.result.cells.now c.over-bids.result.count (max k.bids u.new.opp.count) (omega arith) u.ensures.behind.0.1 in
           rw (w.bids-is, w.offers-is) (opp, own)
     ] in (
       refl,
