@@ -1,8 +1,8 @@
 // The questions: an order's open shares, the standing list, and the Liquidity Identifier.
-ghost use Rattle.std.specs.Prelude.{◌≡◌, ℕ, ◌+◌, ◌≤◌, true, ◌||◌, ◌++◌, map, length, take, drop, Some, None, Ok, Err};
+ghost use Rattle.std.specs.Prelude.{◌≡◌, ◌+◌, ◌≤◌, ◌||◌, ◌++◌, map, length, take, drop, Some, None, Ok, Err};
 ghost use Rattle.std.specs.List.Sorted.{IsPermutation};
 ghost use Rattle.board.specs.Quotes.{Quotes};
-ghost use Rattle.rules.specs.Calls.{cells_refusal, list_refusal, open_of, open_shares, any_program, lit, standing_row, standing_rows};
+ghost use Rattle.rules.specs.Calls.{cells_refusal, list_refusal, open_shares, any_program, lit, standing_row, standing_rows};
 ghost use Rattle.book.specs.Held.{held, asked_for, KeptFrom};
 
 use super::book::Book;

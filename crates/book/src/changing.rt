@@ -1,9 +1,9 @@
 // Cutting and cancelling a resting order.
-ghost use Rattle.std.specs.Prelude.{◌≡◌, ℕ, ◌<◌, ◌≤◌, List, [], length, IfSome};
+ghost use Rattle.std.specs.Prelude.{◌≡◌, ◌<◌, ◌≤◌, List, [], length};
 ghost use Rattle.board.specs.Quotes.{Quotes};
 ghost use Rattle.rules.specs.declared.types.Row.{Row};
 ghost use Rattle.rules.specs.Calls.{leaves, cut_down, taken_off, put_on, cells_refusal, decided, outcome, terms, cancel, cut, rows_in, RowsKept};
-ghost use Rattle.book.specs.Counts.{count_of, side_of};
+ghost use Rattle.book.specs.Counts.{count_of};
 ghost use Rattle.book.specs.Held.{held, CellsKept, HasCells, SameBehind};
 
 use super::book::Book;

@@ -4,7 +4,7 @@ ghost use Rattle.std.specs.Prelude.{◌≡◌, ℕ, ◌+◌, ◌^◌, ◌<◌, �
 ghost use Rattle.shelf.specs.Standing.{first};
 ghost use Rattle.market.specs.declared.types.Side.TheVariants.{Buy, Sell};
 ghost use Rattle.rules.specs.Orders.{type2};
-ghost use Rattle.rules.specs.Trading.{within_limit, reaches_mtv, no_better, worse_than, all_worse, behind_displayed, resting_volume, quote_worth, away_upto, away_volume, volume, bests, passes};
+ghost use Rattle.rules.specs.Trading.{within_limit, reaches_mtv, no_better, worse_than, all_worse, behind_displayed, resting_volume, quote_worth, away_volume, volume, bests, passes};
 ghost use Rattle.book.specs.Asked.{asked};
 ghost use Rattle.book.specs.Prices.{between, Bounds, four_between, worth_between, passes_between};
 

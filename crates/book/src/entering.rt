@@ -1,5 +1,5 @@
 // An entry: sent back, or swept against the other side, and its residue rested or cancelled.
-ghost use Rattle.std.specs.Prelude.{◌≡◌, ℕ, ◌+◌, ◌<◌, ◌≤◌, true, false, length, take, drop, Some, Ok, Err, OnOk};
+ghost use Rattle.std.specs.Prelude.{◌≡◌, ◌+◌, ◌<◌, ◌≤◌, true, false, length, take, Some, Ok, Err, OnOk};
 ghost use Rattle.std.specs.Result.{result_err};
 ghost use Rattle.board.specs.Quotes.{Quotes};
 ghost use Rattle.rules.specs.Orders.{cancels};

@@ -1,5 +1,5 @@
 // What the kinds of order carry, which of them meet, and the least ranking size of each.
-ghost use Rattle.std.specs.Prelude.{◌≡◌, ℕ, ◌<◌};
+ghost use Rattle.std.specs.Prelude.{◌≡◌, ◌<◌};
 ghost use Rattle.rules.specs.Orders.{mtv_of, displayed, is_olo, is_ilo, program, type2, cancels, meets, too_small};
 ghost use Rattle.book.specs.Kinds.{kind_row};
 

@@ -1,5 +1,5 @@
 // The orders that rest in the cells that a call is handed, and the search for one of them.
-ghost use Rattle.std.specs.Prelude.{◌≡◌, ◌<◌, length, take, None, Some, Ok, Err, IfSome, OnOk};
+ghost use Rattle.std.specs.Prelude.{◌≡◌, ◌<◌, length, take, Some, Ok, Err, IfSome, OnOk};
 ghost use Rattle.std.specs.Option.{option_or};
 ghost use Rattle.std.specs.Result.{result_err};
 ghost use Rattle.board.specs.Quotes.{Quotes};

@@ -1,6 +1,6 @@
 // The sweep of an entry: routes and fills, one at a time, until nothing is left of it or nothing
 // may trade. The other side is a shelf, which each fill makes shorter or leaves as long as it was.
-ghost use Rattle.std.specs.Prelude.{◌≡◌, ℕ, ◌+◌, ◌-◌, ◌<◌, ◌≤◌, min, not, length, take, drop, Some, None, nat_le};
+ghost use Rattle.std.specs.Prelude.{◌≡◌, ◌-◌, ◌<◌, ◌≤◌, min, not, length, take, Some, None, nat_le};
 ghost use Rattle.market.specs.Words.{opposite};
 ghost use Rattle.rules.specs.declared.types.Row.TheVariants.{Fill, Route};
 ghost use Rattle.rules.specs.Orders.{mtv_of};
