@@ -13,7 +13,8 @@ use Rattle.rules.specs.declared.types.Order.{Order}
 use Rattle.rules.specs.declared.types.Row.{Row}
 use Rattle.rules.specs.declared.types.Call.{Call}
 use Rattle.rules.specs.declared.types.Call.TheVariants as call
-use Rattle.rules.specs.Calls.{Market, Outcome, Terms, of_side, outcome, decided, rows_in, arriving, enter_refusal, settled, enter, at_rest, leaves, cut, cut_to, cut_stayed, cut_refusal, cancel, cancel_refusal, cancelled, post, post_accepted, apply, lit}
+use Rattle.rules.specs.Calls.{Market, Outcome, Terms, terms, of_side, outcome, decided, rows_in, arriving, enter_refusal, settled, enter, at_rest, leaves, cut, cut_to, cut_stayed, cut_refusal, cancel, cancel_refusal, cancelled, post, post_accepted, apply, lit}
+use Rattle.rules.specs.Rankings.{Ranking}
 use Rattle.rules.specs.Sweeps.{standing, measured_sweep}
 use Rattle.law.specs.Law.{entry, after, tape}
 use Rattle.book.specs.declared.book.Book.{Book}
@@ -21,9 +22,10 @@ use Rattle.book.specs.Held.{CellsKept}
 use Rattle.files.specs.declared.types.Body.{Body}
 use Rattle.files.specs.Lines.{Line, line_in}
 use Rattle.files.specs.Calls.{call_of}
-use Rattle.session.specs.Listing.{answer_text, rows_text, label_text, entry_text, entries_text, light_after}
+use Rattle.session.specs.Listing.{answer_text, rows_text, label_text, entry_text, light_after}
 use Rattle.session.specs.declared.listing.Page.{Page}
 use Rattle.session.specs.Pages.{HasRoom, Wrote}
+use Rattle.session.specs.Markets.{outcome_of, played_text, text_from}
 use Rattle.session.specs.Sessions.{rows_count, calls}
 use Rattle.session.proofs.Writing.{wrote_then, wrote_none}
 
@@ -40,42 +42,42 @@ drop_nth (y ∷ ys) (suc i) x e =
     drop_nth ys i x e ∙ ap (λ n. x ∷ drop n (y ∷ ys)) k
 
 -- i lines are played, from the market `start` to m, and their text is written
-pub record Played (t : Terms) (start m : Market) (lines : List Line) (i : ℕ) (old new : Page) : Type 0 where
+pub record Played (ranking : Ranking) (start m : Market) (lines : List Line) (i : ℕ) (old new : Page) : Type 0 where
   pub text : List ℕ
   pub wrote : Wrote old new text
-  pub whole : text ++ entries_text (drop i lines) (tape t m (calls (drop i lines))) ≡ entries_text lines (tape t start (calls lines))
-  pub market : after t m (calls (drop i lines)) ≡ after t start (calls lines)
+  pub whole : text ++ text_from ranking m (drop i lines) ≡ text_from ranking start lines
+  pub market : after (terms ranking) m (calls (drop i lines)) ≡ after (terms ranking) start (calls lines)
 
-pub played_none : {t : Terms} {start : Market} {lines : List Line} (p : Page) → Played t start start lines 0 p p
+pub played_none : {ranking : Ranking} {start : Market} {lines : List Line} (p : Page) → Played ranking start start lines 0 p p
 played_none p = record { text = []; wrote = wrote_none p; whole = refl; market = refl }
 
-module _ {t : Terms} {start m : Market} {lines : List Line} {i : ℕ} {old page : Page} (p : Played t start m lines i old page) where
+module _ {ranking : Ranking} {start m : Market} {lines : List Line} {i : ℕ} {old page : Page} (p : Played ranking start m lines i old page) where
   -- what is left of the text, where a line is played next
-  text_left : (line : Line) → nth i lines ≡ Some line → p.text ++ (entry_text line (entry (call_of line) 144 (apply t m (call_of line) 144)) ++ entries_text (drop (i + 1) lines) (tape t (apply t m (call_of line) 144).market (calls (drop (i + 1) lines)))) ≡ entries_text lines (tape t start (calls lines))
-  text_left line here = ap (λ ls. p.text ++ entries_text ls (tape t m (calls ls))) (sym (drop_nth lines i line here)) ∙ p.whole
+  text_left : (line : Line) → nth i lines ≡ Some line → p.text ++ (played_text ranking m line ++ text_from ranking (outcome_of ranking m line).market (drop (i + 1) lines)) ≡ text_from ranking start lines
+  text_left line here = ap (λ ls. p.text ++ text_from ranking m ls) (sym (drop_nth lines i line here)) ∙ p.whole
 
-  pub room_left : (line : Line) → nth i lines ≡ Some line → HasRoom old (entries_text lines (tape t start (calls lines))) → HasRoom page (entry_text line (entry (call_of line) 144 (apply t m (call_of line) 144)))
+  pub room_left : (line : Line) → nth i lines ≡ Some line → HasRoom old (text_from ranking start lines) → HasRoom page (played_text ranking m line)
   room_left line here room =
       let w = p.wrote in
-      let text = entry_text line (entry (call_of line) 144 (apply t m (call_of line) 144)) in
-      let rest = entries_text (drop (i + 1) lines) (tape t (apply t m (call_of line) 144).market (calls (drop (i + 1) lines))) in
+      let text = played_text ranking m line in
+      let rest = text_from ranking (outcome_of ranking m line).market (drop (i + 1) lines) in
       omega (arith, ap length (text_left line here), length-append p.text (text ++ rest), length-append text rest, w.end, w.same_length)
 
-  pub played_more : {n : Market} {new : Page} (line : Line) → nth i lines ≡ Some line → Wrote page new (entry_text line (entry (call_of line) 144 (apply t m (call_of line) 144))) → n ≡ (apply t m (call_of line) 144).market → Played t start n lines (i + 1) old new
+  pub played_more : {n : Market} {new : Page} (line : Line) → nth i lines ≡ Some line → Wrote page new (played_text ranking m line) → n ≡ (outcome_of ranking m line).market → Played ranking start n lines (i + 1) old new
   played_more line here w after_is =
-      let text = entry_text line (entry (call_of line) 144 (apply t m (call_of line) 144)) in
+      let text = played_text ranking m line in
       record {
         text = p.text ++ text;
         wrote = wrote_then p.wrote w;
         whole = rw after_is (append_assoc p.text text _ ∙ text_left line here);
-        market = rw after_is (ap (λ ls. after t m (calls ls)) (sym (drop_nth lines i line here)) ∙ p.market);
+        market = rw after_is (ap (λ ls. after (terms ranking) m (calls ls)) (sym (drop_nth lines i line here)) ∙ p.market);
       }
 
-  pub played_all : length lines ≤ i → Wrote old page (entries_text lines (tape t start (calls lines))) × (m ≡ after t start (calls lines))
+  pub played_all : length lines ≤ i → Wrote old page (text_from ranking start lines) × (m ≡ after (terms ranking) start (calls lines))
   played_all h =
       let none : drop i lines ≡ [] = drop_all i lines h in
-      let text : p.text ≡ entries_text lines (tape t start (calls lines)) = sym (append-nil p.text) ∙ ap (λ ls. p.text ++ entries_text ls (tape t m (calls ls))) (sym none) ∙ p.whole in
-      (subst (Wrote old page) text p.wrote, ap (λ ls. after t m (calls ls)) (sym none) ∙ p.market)
+      let text : p.text ≡ text_from ranking start lines = sym (append-nil p.text) ∙ ap (λ ls. p.text ++ text_from ranking m ls) (sym none) ∙ p.whole in
+      (subst (Wrote old page) text p.wrote, ap (λ ls. after (terms ranking) m (calls ls)) (sym none) ∙ p.market)
 
 -- An accepted call answers how many rows it wrote.
 abbrev Tallied : Result Accepted Refusal → List Row → Type 0

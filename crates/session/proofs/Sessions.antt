@@ -16,6 +16,7 @@ use Rattle.files.specs.Written.{Bytes}
 use Rattle.files.proofs.Laws.{reads_exactly}
 use Rattle.session.specs.declared.listing.Page.{Page}
 use Rattle.session.specs.Pages.{HasRoom, Wrote}
+use Rattle.session.specs.Markets.{text_from}
 use Rattle.session.specs.Listing.{entries_text, light_text, light_after, refusal_text}
 use Rattle.session.specs.Sessions.{calls, session_tape, session_text, session_lines, answer_of, listing_after, quotes_after, written_over, no_quotes, printed, FairSession, Ran}
 use Rattle.session.proofs.Writing.{wrote_then}
@@ -83,13 +84,13 @@ pub record Done (ranking : Ranking) (b : Quotes) (file old : List ℕ) (r : Page
   pub ran : Ran file old r.bytes.now (Ok r.written)
 
 module _ {ranking made : Ranking} {b : Quotes} {start : Market} {file : List ℕ} {count : ℕ} (s : Begun ranking made b start file count) (p : Page) (first : p.written ≡ 0) (old : List ℕ) (is_old : p.bytes.now ≡ old) (enough : 65536 ≤ length old) where
-  pub lines_room : HasRoom p (entries_text (lines_in file) (tape (terms made) start (calls (lines_in file))))
+  pub lines_room : HasRoom p (text_from made start (lines_in file))
   lines_room = rw s.lines (omega (arith, s.short, ap length is_old))
 
-  pub light_room : {q : Page} (l : Bool) → Wrote p q (entries_text (lines_in file) (tape (terms made) start (calls (lines_in file)))) → HasRoom q (light_text l)
+  pub light_room : {q : Page} (l : Bool) → Wrote p q (text_from made start (lines_in file)) → HasRoom q (light_text l)
   light_room l w = let v = rw s.lines at w in omega (arith, s.short, ap length is_old, light_short l, v.end, v.same_length)
 
-  pub done : {q r : Page} {m : Market} {l : Bool} → Wrote p q (entries_text (lines_in file) (tape (terms made) start (calls (lines_in file)))) → m ≡ after (terms made) start (calls (lines_in file)) → l ≡ lit m → Wrote q r (light_text l) → Done ranking b file old r m.quotes
+  pub done : {q r : Page} {m : Market} {l : Bool} → Wrote p q (text_from made start (lines_in file)) → m ≡ after (terms made) start (calls (lines_in file)) → l ≡ lit m → Wrote q r (light_text l) → Done ranking b file old r m.quotes
   done {q} {r} {m} {l} w leaves is_lit v =
       let lines = lines_in file in
       let left : m ≡ after (terms ranking) (fresh b) (calls lines) = leaves ∙ s.market in

@@ -4,11 +4,12 @@ use Rattle.std.specs.Prelude.{ℕ, List}
 use Rattle.board.specs.Quotes.{Quotes}
 use Rattle.rules.specs.Rankings.{Ranking}
 use Rattle.rules.specs.Calls.{Market, Outcome, terms, apply}
-use Rattle.law.specs.Law.{entry}
+use Rattle.law.specs.Law.{entry, tape}
 use Rattle.book.specs.Held.{held}
 use Rattle.files.specs.Lines.{Line}
 use Rattle.files.specs.Calls.{call_of}
-use Rattle.session.specs.Listing.{entry_text}
+use Rattle.session.specs.Listing.{entry_text, entries_text}
+use Rattle.session.specs.Sessions.{calls}
 use Rattle.session.specs.declared.running.Session.{Session}
 
 -- the market of a session, over what the board means
@@ -22,3 +23,7 @@ outcome_of ranking m line = apply (terms ranking) m (call_of line) 144
 -- the text of a line that is played
 abbrev pub played_text : Ranking → Market → Line → List ℕ
 played_text ranking m line = entry_text line (entry (call_of line) 144 (outcome_of ranking m line))
+
+-- the text of the lines that are played from a market on
+abbrev pub text_from : Ranking → Market → List Line → List ℕ
+text_from ranking m lines = entries_text lines (tape (terms ranking) m (calls lines))

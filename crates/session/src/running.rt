@@ -1,16 +1,16 @@
 // Running a session: all bodies are read before the first call runs, and then each is made a call
 // of a fresh book, whose answer and rows go into the listing.
-ghost use Rattle.std.specs.Prelude.{◌≡◌, ℕ, ◌+◌, ◌≤◌, length, Ok, Result};
+ghost use Rattle.std.specs.Prelude.{◌≡◌, ℕ, ◌≤◌, length, Ok, Result};
 ghost use Rattle.market.specs.declared.types.Refusal.{Refusal};
-ghost use Rattle.rules.specs.Calls.{terms, apply, rows_in};
+ghost use Rattle.rules.specs.Calls.{terms, rows_in};
 ghost use Rattle.rules.specs.Rankings.{size_time};
-ghost use Rattle.law.specs.Law.{entry, after, tape};
+ghost use Rattle.law.specs.Law.{after};
 ghost use Rattle.files.specs.Lines.{line_of};
 ghost use Rattle.files.specs.Calls.{call_of};
 ghost use Rattle.files.specs.Files.{read_file, lines_in};
-ghost use Rattle.session.specs.Listing.{label_text, entry_text, entries_text};
+ghost use Rattle.session.specs.Listing.{label_text};
 ghost use Rattle.session.specs.Pages.{HasRoom, Wrote};
-ghost use Rattle.session.specs.Markets.{market_of, outcome_of, played_text};
+ghost use Rattle.session.specs.Markets.{market_of, outcome_of, played_text, text_from};
 ghost use Rattle.session.specs.Sessions.{rows_count, calls, session_lines, answer_of, listing_after, quotes_after, written_over, no_quotes, printed, FairSession, Short, Ran, host_number};
 
 use crate::listing::Page;
@@ -98,8 +98,8 @@ impl<R: Ranking + Copy> Session<R> {
     // Plays the bodies of an accepted file one by one.
     fn play_all<B: Board>(&mut self, file: &[u8], count: usize, board: &mut B, page: &mut Page)
         requires read { (read_file file.now ≡ Ok (lines_in file.now)) × (count ≡ length (lines_in file.now)) }
-        requires room { HasRoom page.old (entries_text (lines_in file.now) (tape (terms (R.ranked self.old.book.ranking)) (market_of self.old (B.quotes board.old)) (calls (lines_in file.now)))) }
-        ensures wrote { Wrote page.old page.new (entries_text (lines_in file.now) (tape (terms (R.ranked self.old.book.ranking)) (market_of self.old (B.quotes board.old)) (calls (lines_in file.now)))) }
+        requires room { HasRoom page.old (text_from (R.ranked self.old.book.ranking) (market_of self.old (B.quotes board.old)) (lines_in file.now)) }
+        ensures wrote { Wrote page.old page.new (text_from (R.ranked self.old.book.ranking) (market_of self.old (B.quotes board.old)) (lines_in file.now)) }
         ensures market { market_of self.new (B.quotes board.new) ≡ after (terms (R.ranked self.old.book.ranking)) (market_of self.old (B.quotes board.old)) (calls (lines_in file.now)) }
     {
         for index in 0..count {
