@@ -43,7 +43,7 @@ impl<'a> Page<'a> {
         self.written = end;
     }
 
-    // A number in decimal.
+    // A number in decimal. Its digits are written up to the place where they end.
     fn number(&mut self, n: u32)
         requires { HasRoom self.old (decimal n) }
         ensures { Wrote self.old self.new (decimal n) }
