@@ -1,12 +1,13 @@
 use Rattle.std.proofs.Common.{◌≡◌}
 use mathlib.Core.Path.{fun_ext}
-use Rattle.board.specs.Plates.{plate_quotes}
+use Rattle.board.specs.Plates.{at_market}
+use Rattle.board.specs.Sides.{both_sides}
 use Rattle.session.specs.Sessions.{no_quotes}
 use Rattle.session.proofs.running.run_session.Goals as goal
 
 pub returns : goal.returns
 returns c =
-    let empty : plate_quotes c.new.result.bids c.new.result.offers ≡ no_quotes = fun_ext (λ s. fun_ext (λ m. c.new.ensures s m)) in
+    let empty : both_sides (at_market c.new.result.bids.quotes) (at_market c.new.result.offers.quotes) ≡ no_quotes = fun_ext (λ s. fun_ext (λ m. c.new.ensures s m)) in
     record {
       answer = rw empty at c.run.ensures.answer;
       listing = rw empty at c.run.ensures.listing;

@@ -15,7 +15,7 @@ rows_of-requires g c =
     let a = c.apply-answer in
     let n = held a.new.self a.new.bids a.new.offers (quotes a.new.board) in
     let handed : (length old.bids ≡ 128) × (length old.offers ≡ 128) × (length old.report ≡ 144) = (omega arith, omega arith, omega arith) in
-    let gave : outcome a.result (rows_in a.result a.new.report) n ≡ outcome_of (g.R.Ranking.ranked old.book.ranking) (market_of old (quotes c.args.board.now)) (line_of c.args.body.now) = rw (handed.0, handed.1, handed.2, c.call_of.ensures) at a.ensures.outcome in
+    let gave : outcome a.result (rows_in a.result a.new.report) n ≡ outcome_of (g.R.Ranking.ranked old.book.ranking) (market_of old (quotes c.args.board.now)) (line_of c.args.body.now) = rw (handed.0, handed.1, handed.2, c.from.ensures) at a.ensures.outcome in
     rows_there _ _ n _ a.result a.new.report gave
 
 pub returns-clause-wrote : goal.returns-clause-wrote
@@ -25,5 +25,5 @@ returns-clause-wrote g c =
     let a = c.apply-answer in
     let n = held a.new.self a.new.bids a.new.offers (quotes a.new.board) in
     let handed : (length old.bids ≡ 128) × (length old.offers ≡ 128) × (length old.report ≡ 144) = (omega arith, omega arith, omega arith) in
-    let gave : outcome a.result (rows_in a.result a.new.report) n ≡ outcome_of (g.R.Ranking.ranked old.book.ranking) (market_of old (quotes c.args.board.now)) (line_of c.args.body.now) = rw (handed.0, handed.1, handed.2, c.call_of.ensures) at a.ensures.outcome in
+    let gave : outcome a.result (rows_in a.result a.new.report) n ≡ outcome_of (g.R.Ranking.ranked old.book.ranking) (market_of old (quotes c.args.board.now)) (line_of c.args.body.now) = rw (handed.0, handed.1, handed.2, c.from.ensures) at a.ensures.outcome in
     subst (Wrote c.args.page.now c.rows.new.self) (entry_is (line_of c.args.body.now) c.label_of.ensures c.rows_of.ensures gave) (wrote_then c.answer.ensures c.rows.ensures)
