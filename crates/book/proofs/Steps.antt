@@ -1,6 +1,6 @@
 -- One step of a sweep, case by case, and a sweep by its first step. Assumes nothing.
-use Rattle.std.proofs.Common.{◌≡◌, ℕ, zero, suc, ◌+◌, ◌<◌, Bool, true, false, cond, not, leb, List, [], ◌∷◌, ◌++◌, length, take, set, Some, None, Option, sym, refl, ap, ◌∙◌, append_assoc, append-nil}
-use Rattle.std.proofs.lemmas.List.{take_more_set}
+use Rattle.std.proofs.Common.{◌≡◌, ℕ, zero, suc, ◌+◌, ◌<◌, ◌≤◌, Bool, true, false, cond, not, leb, List, [], ◌∷◌, ◌++◌, length, take, drop, set, Some, None, Option, sym, refl, ap, ◌∙◌, append_assoc, append-nil, arith}
+use Rattle.std.proofs.lemmas.List.{take_more_set, take-append-drop, drop-append-le, length-take-le}
 use Rattle.std.proofs.lemmas.Bool.{eq-eqb, ne_eqb}
 use Rattle.market.specs.Words.{opposite}
 use Rattle.shelf.specs.declared.types.Placed.{Placed}
@@ -12,6 +12,7 @@ use Rattle.rules.specs.declared.types.Row.{Row}
 use Rattle.rules.specs.Orders.{mtv_of}
 use Rattle.rules.specs.Trading.{Stand, may_trade, volume}
 use Rattle.rules.specs.Sweeps.{Step, Swept, next, chosen, trade, routed_first, sweep, swept, rows_before, stepped, measured_sweep}
+use Rattle.book.specs.Held.{KeptFrom}
 
 pub next_zero : (s : Stand) → s.incoming.«open» ≡ 0 → next s ≡ None
 unfolding next
@@ -51,6 +52,12 @@ sweep_ends rs m s w e inv = ap (λ x. swept x s) (sym (append-nil rs)) ∙ sym (
 pub sweep_full : (rs : List Row) (m : ℕ) (s : Stand) (w : Swept) → m ≡ 0 → rows_before rs (sweep m s) ≡ w → swept rs s ≡ w
 unfolding sweep
 sweep_full rs m s w e inv = ap (λ x. swept x s) (sym (append-nil rs)) ∙ sym (ap (λ x. rows_before rs (sweep x s)) e) ∙ inv
+
+-- rows written in the first 144 of a report leave those behind them as they were
+pub kept_behind : (n : ℕ) (old front : List Row) → n ≤ 144 → 144 ≤ length old → length front ≡ 144 → KeptFrom n (take 144 old) front → KeptFrom n old (front ++ drop 144 old)
+kept_behind n old front h k e f =
+    drop-append-le n front (drop 144 old) (omega arith) ∙ ap (λ xs. xs ++ drop 144 old) f
+    ∙ sym (drop-append-le n (take 144 old) (drop 144 old) (omega (arith, length-take-le 144 old k))) ∙ ap (drop n) (take-append-drop 144 old)
 
 -- with enough volume an entry sweeps, and else it does not
 pub measured_enough : (s : Stand) → leb (mtv_of s.incoming.kind) (volume s.incoming s.opp s.quotes) ≡ true → measured_sweep s ≡ sweep 144 s

@@ -37,7 +37,7 @@ fn write_side(side: Side, orders: &[Order], rows: &mut [Standing], at: usize) ->
     ensures rows { take result rows.new ≡ take at rows.old ++ map (standing_row side) orders.now }
     ensures behind { KeptFrom result rows.old rows.new }
 {
-    // By place: of rows written through `iter_mut` a proof knows nothing but their count.
+    // By place, since a proof does not know what is written through a zip with `iter_mut`.
     for (i, order) in orders.iter().enumerate() {
         rows[at + i] = standing_row(side, order);
     }

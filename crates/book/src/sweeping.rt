@@ -117,7 +117,8 @@ fn step<B: Board>(
     }
 }
 
-// The steps of a sweep, at most 144: each but the last takes an order or a quotation off.
+// The steps of a sweep, a row each and at most 144: each but the last takes an order or a quotation
+// off.
 fn sweep<B: Board>(
     incoming: &Order,
     board: &mut B,
@@ -125,20 +126,19 @@ fn sweep<B: Board>(
     opp: &mut Shelf<'_, Order>,
     report: &mut [Row],
 ) -> Swept
-    requires { 144 ≤ length report.old }
+    requires { length report.old ≡ 144 }
     ensures same { opp.new.cells.ghost_name ≡ opp.old.cells.ghost_name }
     ensures swept { swept (take result.rows report.new) (standing (with_open result.«open» incoming.now) own.now (orders opp.new) (B.quotes board.new)) ≡ sweep 144 (standing incoming.now own.now (orders opp.old) (B.quotes board.old)) }
     ensures rows { (result.rows ≤ 144) × KeptFrom result.rows report.old report.new }
     ensures behind { Shortened opp.old opp.new }
 {
     let mut open = incoming.open;
-    // By the place of a row, which is also the count of those before it.
-    for rows in 0..REPORT_ROWS {
+    for (rows, row) in report.iter_mut().enumerate() {
         let now = with_open(incoming, open);
-        let Some((row, left)) = step(&now, board, own, opp) else {
+        let Some((done, left)) = step(&now, board, own, opp) else {
             return Swept { rows, open };
         };
-        report[rows] = row;
+        *row = done;
         open = left;
     }
     Swept {
@@ -176,5 +176,5 @@ pub fn measured_sweep<B: Board>(
             open: incoming.open,
         };
     }
-    sweep(incoming, board, own, opp, report)
+    sweep(incoming, board, own, opp, &mut report[..REPORT_ROWS])
 }

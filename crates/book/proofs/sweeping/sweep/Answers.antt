@@ -1,5 +1,5 @@
 use Rattle.std.proofs.Common.{◌≡◌, suc, ◌+◌, ◌-◌, ◌<◌, length, ◌∙◌, arith}
-use Rattle.std.proofs.lemmas.List.{drop-set-lt}
+use Rattle.std.proofs.lemmas.List.{drop-set-lt, take-set}
 use Rattle.book.proofs.Steps.{sweep_more, sweep_ends, sweep_full}
 use Rattle.book.proofs.Changes.{shortened_twice}
 use Rattle.shelf.proofs.Cells.{drop_later}
@@ -14,7 +14,7 @@ loop-rows-preserved g c =
     let k : 144 - n ≡ suc (144 - (n + 1)) = omega arith in
     let inv = c.loop-rows.invariant in (
       sweep_more c.loop-rows.report n (144 - n) _ _ _ _ _ h k e inv.0,
-      drop-set-lt (n + 1) c.loop-rows.report n c.in-Some.row (omega arith) ∙ drop_later c.loop-rows.report c.args.report.now n (n + 1) (omega arith) inv.1,
+      drop-set-lt (n + 1) c.loop-rows.report n c.in-Some.done (omega arith) ∙ drop_later c.loop-rows.report c.args.report.now n (n + 1) (omega arith) inv.1,
       shortened_twice c.args.opp.now c.loop-rows.opp c.step.new.opp inv.2 t.behind,
       t.same ∙ inv.3,
     )
@@ -23,7 +23,7 @@ pub returns-in_default-clause-swept : goal.returns-in_default-clause-swept
 returns-in_default-clause-swept g c =
     let t = c.in_default.ensures.step in
     let n = rw c.with_open-now.ensures at t.0 in
-    rw (t.1, t.2) (sweep_ends _ _ _ _ n c.loop-rows.invariant.0)
+    rw (take-set, t.1, t.2) (sweep_ends _ _ _ _ n c.loop-rows.invariant.0)
 
 pub returns-clause-swept : goal.returns-clause-swept
 returns-clause-swept g c =
