@@ -87,8 +87,7 @@ fn is_between(prices: &Prices, price: u32) -> bool
     ensures value { result ≡ between prices.now price }
     ensures fits { price < 2 ^ 32 }
 {
-    // Two comparisons, since `contains` of a range made long sweeps slower by 3 percent.
-    prices.low <= price && price <= prices.high
+    (prices.low..=prices.high).contains(&price)
 }
 
 // A displayed order is worse than a price for its side; other orders do not count.
