@@ -11,8 +11,7 @@ use Rattle.board.specs.declared.types.Quote.{Quote}
 use Rattle.board.specs.declared.types.Best.{Best}
 use Rattle.board.specs.declared.types.Level.{Level}
 use Rattle.board.specs.declared.types.Rung.{Rung}
-use Rattle.board.specs.Quotes.{Quotes, market_ok, quote_ok}
-use Rattle.board.specs.Sides.{both_sides}
+use Rattle.board.specs.Quotes.{market_ok, quote_ok}
 
 abbrev pub rung_of : Level → Rung
 rung_of x = record { price = x.quote.price; market = x.market }
@@ -45,9 +44,6 @@ rail_best xs = option_map best_of_level (slice_get xs 0)
 -- the levels but the first of a market
 abbrev pub without : ℕ → List Level → List Level
 without m xs = remove xs (first_at (of_market m) xs)
-
-abbrev pub ladder_quotes : List Level → List Level → Quotes
-ladder_quotes bids offers = both_sides (rail_quote bids) (rail_quote offers)
 
 -- each level lies in its ranges
 abbrev pub level_ok : Level → Bool

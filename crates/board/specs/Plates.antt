@@ -4,15 +4,11 @@ use Rattle.std.specs.Prelude.{ℕ, zero, suc, List, None, Option, slice_index_or
 use Rattle.market.specs.declared.types.Side.{Side}
 use Rattle.board.specs.declared.types.Quote.{Quote}
 use Rattle.board.specs.declared.types.Best.{Best}
-use Rattle.board.specs.Quotes.{Quotes}
-use Rattle.board.specs.Sides.{both_sides, side_best}
+use Rattle.board.specs.Sides.{side_best}
 
 abbrev pub at_market : List (Option Quote) → ℕ → Option Quote
 at_market xs zero = None
 at_market xs (suc n) = slice_index_or xs n None
-
-abbrev pub plate_quotes : List (Option Quote) → List (Option Quote) → Quotes
-plate_quotes bids offers = both_sides (at_market bids) (at_market offers)
 
 -- the best quotation of one side's table
 abbrev pub row_best : Side → List (Option Quote) → Option Best

@@ -1,8 +1,8 @@
 -- What is left of a side decides: one turn of each loop over orders or markets, and its end. Assumes nothing.
-use Rattle.std.proofs.Common.{◌≡◌, ℕ, ◌+◌, ◌<◌, ◌≤◌, ◌&&◌, ◌||◌, List, [], ◌∷◌, ◌++◌, map, length, get_or, take, drop, set, sym, refl, ap, ◌∙◌, append_assoc, arith}
+use Rattle.std.proofs.Common.{◌≡◌, ℕ, ◌+◌, ◌<◌, ◌&&◌, ◌||◌, List, [], ◌∷◌, ◌++◌, map, length, get_or, take, drop, set, sym, refl, ap, ◌∙◌, append_assoc, arith}
 use Rattle.std.specs.List.{list_all, list_any}
 use Rattle.std.proofs.lemmas.List.Recursion.{same_from_clauses}
-use Rattle.std.proofs.lemmas.List.{drop_more, drop_all, take_more, take_more_set, map-append}
+use Rattle.std.proofs.lemmas.List.{drop_more, take_more, take_more_set, map-append}
 use Rattle.market.specs.declared.types.Side.{Side}
 use Rattle.rules.specs.declared.types.Order.{Order}
 use Rattle.rules.specs.declared.types.Standing.{Standing}
@@ -22,9 +22,6 @@ pub volume_more : (i : Order) (x : Bests) (xs : List Order) (k : ℕ) (d : Order
 volume_more i x xs k d s n w h e inv =
     let m : resting_volume i x (drop k xs) ≡ worth i x (get_or xs k d) + resting_volume i x (drop (k + 1) xs) = ap (resting_volume i x) (drop_more xs k d h) in
     omega (arith, m, e, inv)
-
-pub volume_all : (i : Order) (x : Bests) (xs : List Order) (k : ℕ) → length xs ≤ k → resting_volume i x (drop k xs) ≡ 0
-volume_all i x xs k h = ap (resting_volume i x) (drop_all k xs h)
 
 -- one more row of a list that is written from a place on
 pub rows_more : (side : Side) (xs : List Order) (old rows : List Standing) (at i : ℕ) (d : Order) (x : Standing) → x ≡ standing_row side (get_or xs i d) → i < length xs → at + i < length rows → take (at + i) rows ≡ take at old ++ map (standing_row side) (take i xs) → take (at + (i + 1)) (set rows (at + i) x) ≡ take at old ++ map (standing_row side) (take (i + 1) xs)

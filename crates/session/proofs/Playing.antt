@@ -9,7 +9,6 @@ use Rattle.shelf.specs.Standing.{nth}
 use Rattle.board.specs.Quotes.{post_answer}
 use Rattle.rules.specs.declared.types.Accepted.{Accepted}
 use Rattle.rules.specs.declared.types.Located.{Located}
-use Rattle.rules.specs.declared.types.Order.{Order}
 use Rattle.rules.specs.declared.types.Row.{Row}
 use Rattle.rules.specs.declared.types.Call.{Call}
 use Rattle.rules.specs.declared.types.Call.TheVariants as call
@@ -17,8 +16,6 @@ use Rattle.rules.specs.Calls.{Market, Outcome, Terms, terms, of_side, outcome, d
 use Rattle.rules.specs.Rankings.{Ranking}
 use Rattle.rules.specs.Sweeps.{standing, measured_sweep}
 use Rattle.law.specs.Law.{entry, after, tape}
-use Rattle.book.specs.declared.book.Book.{Book}
-use Rattle.book.specs.Held.{CellsKept}
 use Rattle.files.specs.declared.types.Body.{Body}
 use Rattle.files.specs.Lines.{Line, line_in}
 use Rattle.files.specs.Calls.{call_of}
@@ -129,10 +126,6 @@ rows_there t m n c (Err f) report e = omega arith
 pub entry_is : (line : Line) {o : Outcome} {label : List ℕ} {r : Result Accepted Refusal} {rows listed : List Row} {m : Market} → label ≡ label_text line → listed ≡ rows → outcome r rows m ≡ o → answer_text label r ++ rows_text listed ≡ entry_text line (entry (call_of line) 144 o)
 entry_is line {r = r} {listed = listed} is_label is_rows is_outcome =
     ap (λ l. answer_text l r ++ rows_text listed) is_label ∙ ap (λ rs. answer_text (label_text line) r ++ rows_text rs) is_rows ∙ ap (λ (x : Outcome). entry_text line (entry (call_of line) 144 x)) is_outcome
-
-pub ranking_kept : {A R : Type 0} (r : Result A Refusal) (k n : Book R) (bids bids' offers offers' : List Order) → CellsKept r k n bids bids' offers offers' → n.ranking ≡ k.ranking
-ranking_kept (Ok a) k n bids bids' offers offers' h = h.0
-ranking_kept {R = R} (Err e) k n bids bids' offers offers' h = ap (λ (x : Book R). x.ranking) h.0
 
 -- The body of an index is that of its line.
 pub body_there : (o : Option Body) (lines : List Line) (i : ℕ) → i < length lines → line_in o ≡ nth i lines → is_some o ≡ true

@@ -1,6 +1,5 @@
 -- Searches from the front of a shelf, by what is left of the list. Assumes nothing.
-use Rattle.std.proofs.Common.{◌≡◌, ℕ, zero, suc, ◌+◌, ◌<◌, ◌≤◌, Bool, true, false, cond, List, [], ◌∷◌, length, get_or, drop, Some, None, Option, nat_lt, sym, refl, ap, ◌∙◌, add-one, arith}
-use Rattle.std.proofs.lemmas.List.{drop_more, drop_all}
+use Rattle.std.proofs.Common.{◌≡◌, ℕ, zero, suc, ◌+◌, ◌<◌, ◌≤◌, Bool, true, false, cond, List, [], ◌∷◌, length, get_or, Some, None, Option, nat_lt, sym, refl, ap, arith}
 use Rattle.std.proofs.lemmas.Bool.{cases_Bool}
 use Rattle.std.proofs.lemmas.Bool.Decides.{nat_tests}
 use Rattle.std.proofs.lemmas.List.Recursion.{is_position_or_len}
@@ -10,19 +9,6 @@ use Rattle.shelf.specs.declared.types.Placed.{Placed}
 use Rattle.shelf.specs.Standing.{first, first_at, nth}
 
 module _ {X : Type 0} where
-  pub first_more : (p : X → Bool) (xs : List X) (i : ℕ) (d : X) → i < length xs → p (get_or xs i d) ≡ false → first p (drop i xs) i ≡ first p (drop (i + 1) xs) (i + 1)
-  first_more p xs i d h e =
-      let a : first p (drop i xs) i ≡ cond (p (get_or xs i d)) (Some (record { place = i; item = get_or xs i d })) (first p (drop (i + 1) xs) (suc i)) = ap (λ ys. first p ys i) (drop_more xs i d h) in
-      (rw e at a) ∙ ap (first p (drop (i + 1) xs)) (sym (add-one i))
-
-  pub first_here : (p : X → Bool) (xs : List X) (i : ℕ) (d : X) → i < length xs → p (get_or xs i d) ≡ true → first p (drop i xs) i ≡ Some (record { place = i; item = get_or xs i d })
-  first_here p xs i d h e =
-      let a : first p (drop i xs) i ≡ cond (p (get_or xs i d)) (Some (record { place = i; item = get_or xs i d })) (first p (drop (i + 1) xs) (suc i)) = ap (λ ys. first p ys i) (drop_more xs i d h) in
-      rw e at a
-
-  pub first_all : (p : X → Bool) (xs : List X) (i : ℕ) → length xs ≤ i → first p (drop i xs) i ≡ None
-  first_all p xs i h = ap (λ ys. first p ys i) (drop_all i xs h)
-
   pub nth_here : (xs : List X) (n : ℕ) (d : X) → n < length xs → nth n xs ≡ Some (get_or xs n d)
   nth_here [] n d h = absurd (omega arith)
   nth_here (x ∷ xs) zero d h = refl
@@ -32,21 +18,6 @@ module _ {X : Type 0} where
   nth_past [] n h = refl
   nth_past (x ∷ xs) zero h = absurd (omega arith)
   nth_past (x ∷ xs) (suc n) h = nth_past xs n (omega arith)
-
-  -- a search from the front: what it passed, and where it stops
-  pub first_at_more : (p : X → Bool) (xs : List X) (i : ℕ) (d : X) → i < length xs → p (get_or xs i d) ≡ false → i + first_at p (drop i xs) ≡ (i + 1) + first_at p (drop (i + 1) xs)
-  first_at_more p xs i d h e =
-      let a : first_at p (drop i xs) ≡ cond (p (get_or xs i d)) zero (suc (first_at p (drop (i + 1) xs))) = ap (first_at p) (drop_more xs i d h) in
-      let b : first_at p (drop i xs) ≡ suc (first_at p (drop (i + 1) xs)) = rw e at a in
-      omega arith
-
-  pub first_at_here : (p : X → Bool) (xs : List X) (i : ℕ) (d : X) → i < length xs → p (get_or xs i d) ≡ true → first_at p (drop i xs) ≡ 0
-  first_at_here p xs i d h e =
-      let a : first_at p (drop i xs) ≡ cond (p (get_or xs i d)) zero (suc (first_at p (drop (i + 1) xs))) = ap (first_at p) (drop_more xs i d h) in
-      rw e at a
-
-  pub first_at_all : (p : X → Bool) (xs : List X) (i : ℕ) → length xs ≤ i → first_at p (drop i xs) ≡ 0
-  first_at_all p xs i h = ap (first_at p) (drop_all i xs h)
 
   pub first_at_le : (p : X → Bool) (xs : List X) → first_at p xs ≤ length xs
   first_at_le p [] = omega arith
