@@ -42,7 +42,8 @@ impl<S: BoardSide> TwoSided<S> {
         }
     }
 
-    // Sets the quotation of a side and a market.
+    // Sets the quotation of a side and a market. The side is matched here too, since a `&mut` that a
+    // match chooses gets no proof.
     fn set(&mut self, side: Side, market: u32, quote: Option<Quote>)
         requires listed { market_ok market ≡ true }
         requires ranged { quote_ok quote ≡ true }

@@ -17,7 +17,8 @@ pub struct Best {
     pub quote: Quote,
 }
 
-// A quotation with its market, as it stands on a ladder.
+// A quotation with its market, as it stands on a ladder. A board answers a Best, which has the same
+// fields and no place on a shelf.
 #[derive(Clone, Copy, Default)]
 pub struct Level {
     pub market: u32,
