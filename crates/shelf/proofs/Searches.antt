@@ -6,19 +6,9 @@ use Rattle.std.proofs.lemmas.List.Recursion.{is_position_or_len}
 use Rattle.std.specs.List.{position, position_or_len}
 use Rattle.std.specs.Option.{unwrap_or}
 use Rattle.shelf.specs.declared.types.Placed.{Placed}
-use Rattle.shelf.specs.Standing.{first, first_at, nth}
+use Rattle.shelf.specs.Standing.{first, first_at}
 
 module _ {X : Type 0} where
-  pub nth_here : (xs : List X) (n : ℕ) (d : X) → n < length xs → nth n xs ≡ Some (get_or xs n d)
-  nth_here [] n d h = absurd (omega arith)
-  nth_here (x ∷ xs) zero d h = refl
-  nth_here (x ∷ xs) (suc n) d h = nth_here xs n d (omega arith)
-
-  pub nth_past : (xs : List X) (n : ℕ) → length xs ≤ n → nth n xs ≡ None
-  nth_past [] n h = refl
-  nth_past (x ∷ xs) zero h = absurd (omega arith)
-  nth_past (x ∷ xs) (suc n) h = nth_past xs n (omega arith)
-
   pub first_at_le : (p : X → Bool) (xs : List X) → first_at p xs ≤ length xs
   first_at_le p [] = omega arith
   first_at_le p (x ∷ xs) = let h = first_at_le p xs in elim (p x) as (λ b. cond b zero (suc (first_at p xs)) ≤ suc (length xs)) [ true ↦ omega arith | false ↦ omega arith ]
