@@ -48,7 +48,8 @@ fn floor(best_bid: Option<Best>) -> u32
     best_bid.map_or(0, |best| best.quote.price)
 }
 
-// The highest price that no better offer bars.
+// The highest price that no better offer bars. Apart from `floor`, since it speaks of prices that fit 32
+// bits alone.
 fn ceiling(best_offer: Option<Best>) -> u32
     ensures { (p : ℕ) → p < 2 ^ 32 → nat_le p result ≡ no_better best_offer Sell p }
 {

@@ -195,6 +195,7 @@ fn after_label(field: &[u8]) -> Result<Wanted, Fault>
 fn after_field(wanted: Wanted, field: &[u8]) -> Result<Wanted, Fault>
     ensures { result ≡ after wanted field.now }
 {
+    // An arm for each field, since each says a value of another type.
     match wanted {
         Wanted::First => Letter::read(field).map(wanted_behind),
         Wanted::Label => after_label(field),

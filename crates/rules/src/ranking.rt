@@ -98,6 +98,7 @@ impl<R: Ranking> Precedence<OrderKey> for Sided<R> {
 
     ghost total = { λ s. keys_total (R.Ranking.ranked s.ranking) (R.Ranking.lawful s.ranking) s.side };
 
+    // Written out, since side and ranking are known when a book is made, and no derive knows of them.
     fn precedes(&self, a: &OrderKey, b: &OrderKey) -> bool {
         if a.price != b.price {
             return is_better(self.side, a.price, b.price);

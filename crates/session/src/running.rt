@@ -102,6 +102,7 @@ impl<R: Ranking + Copy> Session<R> {
         ensures wrote { Wrote page.old page.new (text_from (R.ranked self.old.book.ranking) (market_of self.old (B.quotes board.old)) (lines_in file.now)) }
         ensures market { market_of self.new (B.quotes board.new) ≡ after (terms (R.ranked self.old.book.ranking)) (market_of self.old (B.quotes board.old)) (calls (lines_in file.now)) }
     {
+        // By index, since that is how a body is asked for.
         for index in 0..count {
             let body = body_at(file, index).unwrap();
             self.play(&body, board, page);
@@ -177,6 +178,7 @@ pub fn rig_session(file: &[u8], listing: &mut [u8]) -> u32
     ensures short { Short (answer_of size_time no_quotes (session_lines (length listing.old) file.now)) }
     ensures ran { (r : Result ℕ Refusal) × (result ≡ host_number r) × Ran file.now listing.old listing.new r }
 {
+    // One number, since the host knows no `Result`.
     match run_session(file, listing) {
         Ok(length) => length as u32,
         Err(refusal) => 100_000 + refusal.number(),
