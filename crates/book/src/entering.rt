@@ -69,6 +69,7 @@ fn settle<R: Ranking + Copy>(ranking: R, left: &Order, own: &mut Shelf<'_, Order
         side: left.side,
         ranking,
     };
+    // An entry that may rest was let in only with room on its side, so the shelf does not refuse.
     let _ = own.put(&order, *left);
 }
 

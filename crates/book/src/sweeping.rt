@@ -66,6 +66,7 @@ fn lower(opp: &mut Shelf<'_, Order>, chosen: Placed<Order>, shares: u32)
     ensures stands { orders opp.new ≡ filled (orders opp.old) chosen shares }
     ensures behind { Shortened opp.old opp.new }
 {
+    // The order stands at its place, so neither call is refused.
     if chosen.item.open <= shares {
         let _ = opp.take_out(chosen.place);
     } else {
