@@ -1,7 +1,7 @@
 // The ladder: a board that holds each side's quotations on a shelf, the best first.
 ghost use Rattle.std.specs.Prelude.{◌≡◌, ℕ, ◌<◌, ◌≤◌, true, List, [], length, take, Some, None};
 ghost use Rattle.std.specs.List.{remove};
-ghost use Rattle.board.specs.declared.types.Level.{Level};
+ghost use Rattle.board.specs.declared.types.Best.{Best};
 ghost use Rattle.shelf.specs.Standing.{put_in};
 ghost use Rattle.board.specs.Quotes.{market_ok, quote_ok};
 ghost use Rattle.board.specs.Ladders.{rung_of, level_of, over, before, rail_quote, without, rail_ok};
@@ -10,7 +10,7 @@ ghost use Rattle.board.specs.LaddersLemmas.{rail_lawful};
 
 use super::side::BoardSide;
 use super::two_sided::TwoSided;
-use super::types::{Best, ByPrice, Level, Quote, Rung};
+use super::types::{Best, ByPrice, Quote, Rung};
 use market::is_better;
 use market::types::Side;
 use shelf::{Precedence, Shelf, Shelved, find};
@@ -18,7 +18,7 @@ use std::marker::Model;
 
 pub type Ladder = TwoSided<Rail>;
 
-impl Shelved for Level {
+impl Shelved for Best {
     type Key = Rung;
 
     ghost keyed = { rung_of };
@@ -58,12 +58,12 @@ impl Precedence<Rung> for ByPrice {
 // beside their count.
 #[derive(Drop)]
 struct Levels {
-    cells: [Level; 16],
+    cells: [Best; 16],
     count: usize,
 }
 
 impl Model for Levels {
-    ghost Value = { List Level };
+    ghost Value = { List Best };
 
     ghost view = { λ l. take l.count l.cells };
 
@@ -75,18 +75,18 @@ impl Levels {
         ensures { result ≡ [] }
     {
         Levels {
-            cells: [Level::default(); 16],
+            cells: [Best::default(); 16],
             count: 0,
         }
     }
 
-    fn as_slice(&self) -> &[Level]
+    fn as_slice(&self) -> &[Best]
         ensures { result.now ≡ self.now }
     {
         &self.cells[..self.count]
     }
 
-    fn put(&mut self, order: &ByPrice, level: Level)
+    fn put(&mut self, order: &ByPrice, level: Best)
         requires { length self.old < 16 }
         ensures { self.new ≡ put_in (before order.now.side) level self.old }
     {
@@ -133,7 +133,7 @@ impl Rail {
         ensures stands { self.new.levels ≡ put_in (before self.old.order.side) (level_of market quote) self.old.levels }
         ensures same { self.new.order ≡ self.old.order }
     {
-        self.levels.put(&self.order, Level { market, quote });
+        self.levels.put(&self.order, Best { market, quote });
     }
 }
 
@@ -160,7 +160,7 @@ impl BoardSide for Rail {
 
     #[tactic(auto, using(crate::specs::LaddersLemmas::first_best))]
     fn best(&self) -> Option<Best> {
-        self.levels.as_slice().first().copied().map(Best::from)
+        self.levels.as_slice().first().copied()
     }
 
     fn look(&self, market: u32) -> Option<Quote> {

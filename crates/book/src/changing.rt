@@ -56,11 +56,10 @@ impl<R: Ranking + Copy> Book<R> {
     {
         let mut bids = Shelf::over(bids, self.bids);
         let mut offers = Shelf::over(offers, self.offers);
-        // The order stands at its place, so the shelf does not refuse.
-        let _ = match at.side {
-            Side::Buy => bids.take_out(at.place),
-            Side::Sell => offers.take_out(at.place),
-        };
+        match at.side {
+            Side::Buy => bids.take_out(at.place).unwrap(),
+            Side::Sell => offers.take_out(at.place).unwrap(),
+        }
         self.bids = bids.count();
         self.offers = offers.count();
     }
@@ -79,11 +78,10 @@ impl<R: Ranking + Copy> Book<R> {
         };
         let mut bids = Shelf::over(bids, self.bids);
         let mut offers = Shelf::over(offers, self.offers);
-        // The side has room, so the shelf does not refuse.
-        let _ = match side {
-            Side::Buy => bids.put(&precedence, order),
-            Side::Sell => offers.put(&precedence, order),
-        };
+        match side {
+            Side::Buy => bids.put(&precedence, order).unwrap(),
+            Side::Sell => offers.put(&precedence, order).unwrap(),
+        }
         self.bids = bids.count();
         self.offers = offers.count();
     }

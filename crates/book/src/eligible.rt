@@ -177,6 +177,7 @@ fn resting_volume(incoming: &Order, bests: &Bests, opp: &[Order]) -> u64
     ensures bound { result ≤ 549755813888 }
 {
     let prices = prices(incoming, bests);
+    // A loop, since the bound of a chain's sum did not close: no fact says that `open` fits 32 bits.
     let mut sum = 0u64;
     for order in opp {
         sum += u64::from(worth(incoming, &prices, order));

@@ -9,7 +9,7 @@ ghost use Rattle.book.specs.Counts.{count_of};
 ghost use Rattle.book.specs.Held.{held, CellsKept, KeptFrom, orders, Shortened};
 
 use super::book::Book;
-use super::kinds::{is_cancelled, is_ilo, is_olo, is_too_small, mtv_of};
+use super::kinds::{is_cancelled, is_too_small, mtv_of};
 use super::limits::{CELLS, MOST_ENTRIES, REPORT_ROWS};
 use super::resting::check_cells;
 use super::sweeping::{Swept, measured_sweep, with_open};
@@ -37,11 +37,10 @@ fn check_entry(incoming: &Order, arrivals: u32, count: usize, room: usize) -> Re
         return Err(Refusal::Shares);
     }
     let small = is_too_small(kind, incoming.price, incoming.size);
-    if is_olo(kind) && small {
-        return Err(Refusal::SmallOlo);
-    }
-    if is_ilo(kind) && small {
-        return Err(Refusal::SmallIlo);
+    match kind {
+        Kind::Olo if small => return Err(Refusal::SmallOlo),
+        Kind::Ilo { .. } if small => return Err(Refusal::SmallIlo),
+        _ => {}
     }
     if incoming.size < mtv_of(kind) {
         return Err(Refusal::LargeMtv);
@@ -69,8 +68,7 @@ fn settle<R: Ranking + Copy>(ranking: R, left: &Order, own: &mut Shelf<'_, Order
         side: left.side,
         ranking,
     };
-    // An entry that may rest was let in only with room on its side, so the shelf does not refuse.
-    let _ = own.put(&order, *left);
+    own.put(&order, *left).unwrap();
 }
 
 // Sweeps the other side and settles the residue on the entry's own.

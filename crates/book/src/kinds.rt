@@ -1,7 +1,7 @@
 // What the kinds of order carry, which of them meet, and the least ranking size of each.
 ghost use Rattle.std.specs.Prelude.{◌≡◌, ◌<◌};
-ghost use Rattle.rules.specs.Orders.{mtv_of, displayed, is_olo, is_ilo, program, type2, cancels, meets, too_small};
 ghost use Rattle.book.specs.Kinds.{kind_row};
+ghost use Rattle.rules.specs.Orders.{mtv_of, displayed, program, type2, cancels, meets, too_small};
 
 use rules::types::{Kind, Mark, Routing};
 
@@ -18,18 +18,6 @@ pub fn is_displayed(kind: Kind) -> bool
     ensures { result ≡ displayed kind }
 {
     matches!(kind, Kind::Displayed)
-}
-
-pub fn is_olo(kind: Kind) -> bool
-    ensures { result ≡ is_olo kind }
-{
-    matches!(kind, Kind::Olo)
-}
-
-pub fn is_ilo(kind: Kind) -> bool
-    ensures { result ≡ is_ilo kind }
-{
-    matches!(kind, Kind::Ilo { .. })
 }
 
 pub fn is_program(kind: Kind) -> bool
@@ -64,7 +52,8 @@ pub fn is_cancelled(kind: Kind) -> bool
 }
 
 // Which kinds meet, displayed, dark, OLO and ILO: a row for each kind of the incoming order, and in
-// it an entry for each kind of the resting one.
+// it an entry for each kind of the resting one. The sixteen answers are written out, as the rules give
+// them, so that each can be read.
 const KINDS_MEET: [[bool; 4]; 4] = [
     [true, true, false, true],
     [true, true, false, true],

@@ -1,5 +1,6 @@
 // The sweep of an entry: routes and fills, one at a time, until nothing is left of it or nothing
-// may trade. The other side is a shelf, which each fill makes shorter or leaves as long as it was.
+// may trade. The parameters are no struct: of a `&mut` that one keeps beside another, a caller does not
+// learn what was left behind it. The other side is a shelf, which each fill makes shorter or leaves as long as it was.
 ghost use Rattle.std.specs.Prelude.{◌≡◌, ◌-◌, ◌<◌, ◌≤◌, min, not, length, take, Some, None, nat_le};
 ghost use Rattle.market.specs.Words.{opposite};
 ghost use Rattle.rules.specs.declared.types.Row.TheVariants.{Fill, Route};
@@ -66,12 +67,11 @@ fn lower(opp: &mut Shelf<'_, Order>, chosen: Placed<Order>, shares: u32)
     ensures stands { orders opp.new ≡ filled (orders opp.old) chosen shares }
     ensures behind { Shortened opp.old opp.new }
 {
-    // The order stands at its place, so neither call is refused.
     if chosen.item.open <= shares {
-        let _ = opp.take_out(chosen.place);
+        opp.take_out(chosen.place).unwrap();
     } else {
         let left = with_open(&chosen.item, chosen.item.open - shares);
-        let _ = opp.replace(chosen.place, left);
+        opp.replace(chosen.place, left).unwrap();
     }
 }
 

@@ -52,6 +52,7 @@ fn write_contents(out: &mut [u8], text: &[u8], first: usize)
     ensures stands { take (2 + 4 * length (lines_in text.now)) out.new ≡ take 2 out.old ++ contents first (lines_in text.now) }
     ensures behind { drop (2 + 4 * length (lines_in text.now)) out.new ≡ drop (2 + 4 * length (lines_in text.now)) out.old }
 {
+    // By place, since a proof does not know what is written through a zip with `chunks_exact_mut`.
     let mut place = 2;
     let mut next = first;
     for line in Lines::of(text) {

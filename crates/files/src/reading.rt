@@ -13,7 +13,8 @@ use crate::fields::next_wanted;
 use crate::types::{Body, Wanted};
 use market::types::Refusal;
 
-// Reads every body, up to the first malformed field.
+// Reads every body, up to the first malformed field. By index, and left by one label, since the refusal
+// names the body's index and the field's place.
 fn check_bodies(file: &[u8], count: u16) -> Result<usize, Refusal>
     ensures { result ≡ refused count (wrong_body file.now count 0) }
 {

@@ -3,7 +3,8 @@ use rules::types::{Call, Kind};
 use std::error::Error;
 use std::fmt;
 
-// One body of a session file. The label of a new order is handed on as that part of the file.
+// One body of a session file. The label of a new order is handed on as that part of the file. The
+// variants are those of a call, written out, since a label belongs to a new order alone.
 #[derive(Clone, Copy, Debug)]
 pub enum Body<'a> {
     New {
@@ -67,7 +68,8 @@ impl From<&Body<'_>> for Call {
     }
 }
 
-// Why a field of a body is malformed.
+// Why a field of a body is malformed. A refusal names the place alone, and the readers' contracts say
+// which of these holds there.
 #[derive(Clone, Copy, PartialEq, Eq, Debug)]
 pub enum Fault {
     // The body ends where the field should begin.

@@ -57,7 +57,7 @@ pub fn empty<T>(_cells: &[T]) -> usize
     0
 }
 
-impl<'a, T: Copy> Shelf<'a, T> {
+impl<'a, T> Shelf<'a, T> {
     // The shelf of cells of which so many are in use, or all where there are no more.
     pub fn over(cells: &'a mut [T], used: usize) -> Shelf<'a, T>
         ensures same { result.cells.ghost_name ≡ cells.entry.ghost_name }
@@ -80,7 +80,9 @@ impl<'a, T: Copy> Shelf<'a, T> {
     {
         &self.cells[..self.count]
     }
+}
 
+impl<'a, T: Copy> Shelf<'a, T> {
     // Makes room at a place and puts a thing there: the things from there on move back by one.
     fn insert_at(&mut self, at: usize, thing: T)
         requires { (at ≤ self.old.count) × (self.old.count < length self.old.cells.now) }
