@@ -1,6 +1,5 @@
 -- The lines of a session played one by one: what is written, and the text of those that are left, make the whole. Assumes nothing.
-use Rattle.std.proofs.Common.{◌≡◌, ℕ, zero, suc, ◌+◌, ◌<◌, ◌≤◌, true, List, [], ◌∷◌, ◌++◌, length, drop, is_some, Some, None, Ok, Err, Option, Result, sym, refl, ap, ◌∙◌, subst, append_assoc, append-nil, arith, length-append, length-take}
-use Rattle.std.proofs.lemmas.List.{drop_all}
+use Rattle.std.proofs.Common.{◌≡◌, ℕ, zero, suc, ◌+◌, ◌<◌, ◌≤◌, true, List, [], ◌∷◌, ◌++◌, length, drop, is_some, Some, None, Ok, Err, Option, Result, sym, refl, ap, ◌∙◌, append_assoc, arith, length-append, length-take}
 use Rattle.std.proofs.lemmas.Bool.{cond_both}
 use Rattle.market.specs.declared.types.Refusal.{Refusal}
 use Rattle.market.specs.declared.types.Refusal.TheVariants.{NotResting}
@@ -24,7 +23,7 @@ use Rattle.session.specs.declared.listing.Page.{Page}
 use Rattle.session.specs.Pages.{HasRoom, Wrote}
 use Rattle.session.specs.Markets.{outcome_of, played_text, text_from}
 use Rattle.session.specs.Sessions.{rows_count, calls}
-use Rattle.session.proofs.Writing.{wrote_then, wrote_none}
+use Rattle.session.proofs.Writing.{wrote_then}
 
 -- the identifier after the last entry is that of the market after the last call
 pub light_right : (t : Terms) (m : Market) (cs : List (Call × ℕ)) → light_after (lit m) (tape t m cs) ≡ lit (after t m cs)
@@ -44,9 +43,6 @@ pub record Played (ranking : Ranking) (start m : Market) (lines : List Line) (i 
   pub wrote : Wrote old new text
   pub whole : text ++ text_from ranking m (drop i lines) ≡ text_from ranking start lines
   pub market : after (terms ranking) m (calls (drop i lines)) ≡ after (terms ranking) start (calls lines)
-
-pub played_none : {ranking : Ranking} {start : Market} {lines : List Line} (p : Page) → Played ranking start start lines 0 p p
-played_none p = record { text = []; wrote = wrote_none p; whole = refl; market = refl }
 
 module _ {ranking : Ranking} {start m : Market} {lines : List Line} {i : ℕ} {old page : Page} (p : Played ranking start m lines i old page) where
   -- what is left of the text, where a line is played next
@@ -69,12 +65,6 @@ module _ {ranking : Ranking} {start m : Market} {lines : List Line} {i : ℕ} {o
         whole = rw after_is (append_assoc p.text text _ ∙ text_left line here);
         market = rw after_is (ap (λ ls. after (terms ranking) m (calls ls)) (sym (drop_nth lines i line here)) ∙ p.market);
       }
-
-  pub played_all : length lines ≤ i → Wrote old page (text_from ranking start lines) × (m ≡ after (terms ranking) start (calls lines))
-  played_all h =
-      let none : drop i lines ≡ [] = drop_all i lines h in
-      let text : p.text ≡ text_from ranking start lines = sym (append-nil p.text) ∙ ap (λ ls. p.text ++ text_from ranking m ls) (sym none) ∙ p.whole in
-      (subst (Wrote old page) text p.wrote, ap (λ ls. after (terms ranking) m (calls ls)) (sym none) ∙ p.market)
 
 -- An accepted call answers how many rows it wrote.
 abbrev Tallied : Result Accepted Refusal → List Row → Type 0

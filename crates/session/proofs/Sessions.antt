@@ -5,7 +5,7 @@ use Rattle.std.proofs.lemmas.Bool.{le-ltb}
 use Rattle.market.specs.declared.types.Refusal.{Refusal}
 use Rattle.market.specs.declared.types.Refusal.TheVariants.{ShortListing}
 use Rattle.board.specs.Quotes.{Quotes, Lawful}
-use Rattle.rules.specs.Rankings.{Ranking, Ranks, size_time}
+use Rattle.rules.specs.Rankings.{Ranking, Ranks}
 use Rattle.rules.specs.Calls.{Market, terms, fresh, lit}
 use Rattle.law.specs.Tape.{empty_account}
 use Rattle.law.specs.Law.{after, tape, FairTape}
@@ -17,8 +17,8 @@ use Rattle.files.proofs.Laws.{reads_exactly}
 use Rattle.session.specs.declared.listing.Page.{Page}
 use Rattle.session.specs.Pages.{HasRoom, Wrote}
 use Rattle.session.specs.Markets.{text_from}
-use Rattle.session.specs.Listing.{entries_text, light_text, light_after, refusal_text}
-use Rattle.session.specs.Sessions.{calls, session_tape, session_text, session_lines, answer_of, listing_after, quotes_after, written_over, no_quotes, printed, FairSession, Ran}
+use Rattle.session.specs.Listing.{entries_text, light_text, light_after}
+use Rattle.session.specs.Sessions.{calls, session_tape, session_text, session_lines, answer_of, listing_after, quotes_after, written_over, FairSession, Ran}
 use Rattle.session.proofs.Writing.{wrote_then}
 use Rattle.session.proofs.Ending.{has_ran}
 use Rattle.session.proofs.Lengths.{session_short}
@@ -38,20 +38,6 @@ wrote_whole {p} {q} {text} old start is_old w =
     let e : q.written ≡ length text = omega arith in
     rw (← is_old)
     (sym (take-append-drop q.written q.bytes.now) ∙ ap (λ xs. xs ++ drop q.written q.bytes.now) (w.front ∙ ap (λ n. take n p.bytes.now ++ text) start) ∙ ap (λ xs. text ++ xs) (w.behind ∙ ap (λ n. drop n p.bytes.now) e))
-
--- a session with room enough is refused as its file is, and its refusal is printed over what was there
-pub refusal_printed : {p q : Page} {e : Refusal} (room : ℕ) (file old mid : List ℕ) → 65536 ≤ room → Err e ≡ answer_of size_time no_quotes (session_lines room file) → mid ≡ listing_after size_time no_quotes (session_lines room file) old → p.written ≡ 0 → p.bytes.now ≡ mid → Wrote p q (refusal_text e) → (q.written ≡ length (printed (read_file file))) × (q.bytes.now ≡ written_over (printed (read_file file)) old)
-refusal_printed {p} {q} {e} room file old mid enough answer kept start is_mid w =
-    let heard : session_lines room file ≡ read_file file = ap (λ t. cond t (Err ShortListing) (read_file file)) (le-ltb room 65536 enough) in
-    let refused : read_file file ≡ Err e = refused_so (read_file file) (answer ∙ ap (answer_of size_time no_quotes) heard) in
-    let same : mid ≡ old = kept ∙ ap (λ s. listing_after size_time no_quotes s old) (heard ∙ refused) in
-    let text : refusal_text e ≡ printed (read_file file) = ap printed (sym refused) in
-    let length_is : q.written ≡ length (refusal_text e) = omega arith in
-    (length_is ∙ ap length text, rw (← text) (wrote_whole old start (is_mid ∙ same) w))
-  where
-    refused_so : (s : Result (List Line) Refusal) → Err e ≡ answer_of size_time no_quotes s → s ≡ Err e
-    refused_so (Ok lines) h = cc
-    refused_so (Err f) h = let k : f ≡ e = cc in ap (λ (x : Refusal). Err x) k
 
 -- A session of a file that is read, of `count` lines, over a book made with a ranking, and the market
 -- that it holds over the board's quotations.

@@ -1,5 +1,5 @@
 -- Texts written one behind another on a page. Assumes nothing.
-use Rattle.std.proofs.Common.{◌≡◌, ℕ, ◌+◌, ◌<◌, List, [], ◌++◌, length, get_or, take, drop, sym, refl, ap, ◌∙◌, subst, append_assoc, append-nil, arith, length-append, length-drop}
+use Rattle.std.proofs.Common.{◌≡◌, ℕ, ◌+◌, ◌<◌, List, [], ◌++◌, length, get_or, take, drop, sym, ap, ◌∙◌, subst, append_assoc, arith, length-append, length-drop}
 use Rattle.std.proofs.Math.Seq.{take-append_seam, drop-append_seam}
 use Rattle.std.proofs.lemmas.List.{length-take-le, take_more, flat_map_more}
 use Rattle.std.proofs.lemmas.List.Folds.{length-flat_map-take}
@@ -34,9 +34,6 @@ wrote_so {p} {q} {text} same room end is =
       front = ap (λ n. take n q.bytes.now) long ∙ ap (take (length (old ++ text))) whole ∙ take-append_seam (old ++ text) rest;
       behind = ap (λ n. drop n q.bytes.now) long ∙ ap (drop (length (old ++ text))) whole ∙ drop-append_seam (old ++ text) rest;
     }
-
-pub wrote_none : (p : Page) → Wrote p p []
-wrote_none p = record { same_bytes = refl; same_length = refl; end = omega arith; front = sym (append-nil (take p.written p.bytes.now)); behind = refl }
 
 -- the row that is written next has room
 pub rows_room : {p q : Page} (rows : List Row) (i : ℕ) (d : Row) → i < length rows → HasRoom p (rows_text rows) → Wrote p q (rows_text (take i rows)) → HasRoom q (row_text (get_or rows i d))

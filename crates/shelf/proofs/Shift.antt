@@ -1,18 +1,12 @@
 -- Cells moved by one place, as what they leave of the shelf. Assumes nothing.
 use Rattle.std.proofs.Common.{◌≡◌, ℕ, zero, suc, ◌+◌, ◌-◌, ◌<◌, ◌≤◌, List, [], ◌∷◌, ◌++◌, length, take, drop, set, sym, refl, ap, ◌∙◌, add-one, arith}
 use lib.Seq.{paste}
+use Rattle.std.proofs.Math.Seq.{take-set-lt}
 use Rattle.std.specs.List.{insert, remove}
-use Rattle.std.proofs.lemmas.List.{take-take, length-drop, drop-take, drop-set-lt}
+use Rattle.std.proofs.lemmas.List.{take-take, length-drop, drop-take}
 use Rattle.std.proofs.lemmas.List.Edits.{take-paste, drop-paste}
 
 module _ {X : Type 0} where
-  pub take_set_in : (xs : List X) (i n : ℕ) (y : X) → i < n → take n (set xs i y) ≡ set (take n xs) i y
-  take_set_in [] i zero y h = refl
-  take_set_in [] i (suc n) y h = refl
-  take_set_in (x ∷ xs) i zero y h = absurd (omega arith)
-  take_set_in (x ∷ xs) zero (suc n) y h = refl
-  take_set_in (x ∷ xs) (suc i) (suc n) y h = ap (λ zs. x ∷ zs) (take_set_in xs i n y (omega arith))
-
   -- the cell in front of a part that was moved takes the new thing
   set_front : (xs zs : List X) (i : ℕ) (y : X) → i < length xs → set (take (suc i) xs ++ zs) i y ≡ take i xs ++ (y ∷ zs)
   set_front [] zs i y h = absurd (omega arith)
@@ -32,15 +26,8 @@ module _ {X : Type 0} where
       let k : n + 1 ≡ (i + 1) + (n - i) = omega arith in
       let t : take (n + 1) moved ≡ take (suc i) xs ++ zs =
       ap (take (n + 1)) e ∙ ap (λ m. take m (paste xs (i + 1) (drop i xs) (n - i))) k ∙ take-paste xs (i + 1) (drop i xs) (n - i) (omega arith) (omega arith) ∙ ap (λ m. take m xs ++ zs) (add-one i) in
-      take_set_in moved i (n + 1) y (omega arith) ∙ ap (λ ys. set ys i y) t ∙ set_front xs zs i y (omega arith)
+      take-set-lt (n + 1) moved i y (omega arith) ∙ ap (λ ys. set ys i y) t ∙ set_front xs zs i y (omega arith)
       ∙ ap (λ ys. ys ++ (y ∷ zs)) (sym (take-take i n xs h)) ∙ ap (λ ys. take i (take n xs) ++ (y ∷ ys)) (sym (drop_of_take xs i n h))
-
-  pub inserted_behind : (xs moved : List X) (i n : ℕ) (y : X) → i ≤ n → n < length xs → moved ≡ paste xs (i + 1) (drop i xs) (n - i) → drop (n + 1) (set moved i y) ≡ drop (n + 1) xs
-  inserted_behind xs moved i n y h l e =
-      let d = length-drop i xs in
-      let k : n + 1 ≡ (i + 1) + (n - i) = omega arith in
-      drop-set-lt (n + 1) moved i y (omega arith) ∙ ap (drop (n + 1)) e ∙ ap (λ m. drop m (paste xs (i + 1) (drop i xs) (n - i))) k
-      ∙ drop-paste xs (i + 1) (drop i xs) (n - i) (omega arith) (omega arith) ∙ ap (λ m. drop m xs) (sym k)
 
   -- what stood behind a place moved up by one
   pub removed_stands : (xs moved : List X) (i n : ℕ) → i < n → n ≤ length xs → moved ≡ paste xs i (drop (i + 1) xs) (n - (i + 1)) → take (n - 1) moved ≡ remove (take n xs) i

@@ -1,9 +1,9 @@
 use Rattle.std.proofs.Common.{◌<◌, arith}
 use Rattle.std.proofs.lemmas.List.{drop-set-lt}
-use Rattle.shelf.proofs.Shift.{take_set_in}
+use Rattle.std.proofs.Math.Seq.{take-set-lt}
 use Rattle.shelf.proofs.Shelf.replace.Goals as goal
 
 pub returns-clause-ok : goal.returns-clause-ok
 returns-clause-ok g c =
     let h : c.args.at < c.args.self.now.count = omega arith in
-    (h, take_set_in _ _ _ _ h, drop-set-lt _ _ _ _ h)
+    (h, take-set-lt _ _ _ _ h, drop-set-lt _ _ _ _ h)

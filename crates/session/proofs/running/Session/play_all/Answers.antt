@@ -1,12 +1,9 @@
-use Rattle.std.proofs.Common.{◌≡◌, Some, sym, refl, ap, ◌∙◌, arith}
+use Rattle.std.proofs.Common.{◌≡◌, Some, sym, ap, ◌∙◌, arith}
 use Rattle.shelf.specs.Standing.{nth}
 use Rattle.files.specs.Lines.{line_of, line_in}
 use Rattle.files.specs.Files.{lines_in}
-use Rattle.session.proofs.Playing.{played_none, room_left, played_more, played_all, body_there}
+use Rattle.session.proofs.Playing.{room_left, played_more, body_there}
 use Rattle.session.proofs.running.Session.play_all.Goals as goal
-
-pub loop-index-init : goal.loop-index-init
-loop-index-init g c = record { played = played_none c.args.page.now; ranking = refl }
 
 pub unwrap-body-requires : goal.unwrap-body-requires
 unwrap-body-requires g c =
@@ -32,8 +29,3 @@ loop-index-preserved g c =
       played = played_more l.invariant.played line here (rw l.invariant.ranking at p.wrote) (rw l.invariant.ranking at p.market);
       ranking = p.ranking ∙ l.invariant.ranking;
     }
-
-pub returns : goal.returns
-returns g c =
-    let done = played_all c.loop-index.invariant.played (omega (arith, c.requires.read.1)) in
-    record { wrote = done.0; market = done.1 }
