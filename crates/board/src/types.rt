@@ -9,7 +9,7 @@ pub struct Quote {
     pub shares: u32,
 }
 
-// The best quotation of a side, with the market that has it.
+// A quotation with the market that has it: the best of a side, or a level of a ladder.
 #[derive(Clone, Copy, PartialEq, Eq, Debug, Default)]
 pub struct Best {
     pub market: u32,

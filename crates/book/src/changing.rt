@@ -56,6 +56,7 @@ impl<R: Ranking + Copy> Book<R> {
     {
         let mut bids = Shelf::over(bids, self.bids);
         let mut offers = Shelf::over(offers, self.offers);
+        // No `&mut` that a `match` chose is followed, so each arm makes the call.
         match at.side {
             Side::Buy => bids.take_out(at.place).unwrap(),
             Side::Sell => offers.take_out(at.place).unwrap(),
@@ -78,6 +79,7 @@ impl<R: Ranking + Copy> Book<R> {
         };
         let mut bids = Shelf::over(bids, self.bids);
         let mut offers = Shelf::over(offers, self.offers);
+        // As in `take_off`, each arm makes the call.
         match side {
             Side::Buy => bids.put(&precedence, order).unwrap(),
             Side::Sell => offers.put(&precedence, order).unwrap(),

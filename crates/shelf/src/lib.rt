@@ -145,7 +145,8 @@ impl<'a, T: Shelved> Shelf<'a, T> {
     }
 }
 
-// The place of the first thing that `x` is ahead of, or the end.
+// The place of the first thing that `x` is ahead of, or the end. Not by halving, since this holds of
+// cells in any order.
 fn place_for<T: Shelved, P: Precedence<T::Key>>(order: &P, standing: &[T], x: &T) -> usize
     ensures { result ≡ first_at (λ y. P.ahead order.now (T.keyed x.now) (T.keyed y)) standing.now }
 {
