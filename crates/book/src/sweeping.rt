@@ -1,6 +1,7 @@
 // The sweep of an entry: routes and fills, one at a time, until nothing is left of it or nothing
 // may trade. The parameters are no struct: of a `&mut` that one keeps beside another, a caller does not
-// learn what was left behind it. The other side is a shelf, which each fill makes shorter or leaves as long as it was.
+// learn what was left behind it. The other side is a shelf, which each fill makes shorter or leaves as
+// long as it was.
 ghost use Rattle.std.specs.Prelude.{◌≡◌, ◌-◌, ◌<◌, ◌≤◌, min, not, length, take, Some, None, nat_le};
 ghost use Rattle.market.specs.Words.{opposite};
 ghost use Rattle.rules.specs.declared.types.Row.TheVariants.{Fill, Route};

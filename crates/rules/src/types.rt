@@ -16,7 +16,8 @@ pub enum Mark {
 }
 
 // The four kinds of order. An OLO is an Oversize Liquidity Order, an ILO an Institutional
-// Liquidity Order, with its Minimum Triggering Volume (MTV), 0 for none, as session files have it. Both are Program orders.
+// Liquidity Order, with its Minimum Triggering Volume (MTV), 0 for none, as session files have it. Both
+// are Program orders.
 #[derive(Clone, Copy, PartialEq, Eq, Debug)]
 pub enum Kind {
     Displayed,
