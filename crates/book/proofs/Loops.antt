@@ -1,8 +1,8 @@
 -- What is left of a side decides: one turn of each loop over orders or markets, and its end. Assumes nothing.
-use Rattle.std.proofs.Common.{◌≡◌, ℕ, ◌+◌, ◌<◌, ◌&&◌, ◌||◌, List, [], ◌∷◌, ◌++◌, map, length, get_or, take, drop, set, sym, refl, ap, ◌∙◌, append_assoc, arith}
-use Rattle.std.specs.List.{list_all, list_any}
+use Rattle.std.proofs.Common.{◌≡◌, ℕ, ◌+◌, ◌<◌, ◌≤◌, true, false, ◌&&◌, ◌||◌, List, [], ◌∷◌, ◌++◌, map, length, get_or, take, drop, set, sym, refl, ap, ◌∙◌, append_assoc, arith}
+use Rattle.std.specs.List.{list_any}
 use Rattle.std.proofs.lemmas.List.Recursion.{same_from_clauses}
-use Rattle.std.proofs.lemmas.List.{drop_more, take_more, take_more_set, map-append}
+use Rattle.std.proofs.lemmas.List.{drop_more, drop_all, take_more, take_more_set, map-append}
 use Rattle.market.specs.declared.types.Side.{Side}
 use Rattle.rules.specs.declared.types.Order.{Order}
 use Rattle.rules.specs.declared.types.Standing.{Standing}
@@ -10,10 +10,19 @@ use Rattle.rules.specs.Orders.{program}
 use Rattle.rules.specs.Calls.{any_program, standing_row}
 use Rattle.rules.specs.Trading.{Bests, all_worse, worse_than, worth, resting_volume}
 
--- what the library's tests over a whole list say
-pub worse_than_all : (p : ℕ) (xs : List Order) → all_worse p xs ≡ list_all (worse_than p) xs
-worse_than_all p = same_from_clauses (all_worse p) (list_all (worse_than p)) (λ o b. worse_than p o && b) refl (λ _ _. refl) (λ _ _. refl)
+worse_is : (p : ℕ) (xs : List Order) (i : ℕ) (d : Order) → i < length xs → all_worse p (drop i xs) ≡ (worse_than p (get_or xs i d) && all_worse p (drop (i + 1) xs))
+worse_is p xs i d h = ap (all_worse p) (drop_more xs i d h)
 
+pub worse_more : (p : ℕ) (xs : List Order) (i : ℕ) (d : Order) → i < length xs → worse_than p (get_or xs i d) ≡ true → all_worse p (drop i xs) ≡ all_worse p (drop (i + 1) xs)
+worse_more p xs i d h e = worse_is p xs i d h ∙ ap (λ b. b && all_worse p (drop (i + 1) xs)) e
+
+pub worse_stop : (p : ℕ) (xs : List Order) (i : ℕ) (d : Order) → i < length xs → worse_than p (get_or xs i d) ≡ false → all_worse p (drop i xs) ≡ false
+worse_stop p xs i d h e = worse_is p xs i d h ∙ ap (λ b. b && all_worse p (drop (i + 1) xs)) e
+
+pub worse_all : (p : ℕ) (xs : List Order) (i : ℕ) → length xs ≤ i → all_worse p (drop i xs) ≡ true
+worse_all p xs i h = ap (all_worse p) (drop_all i xs h)
+
+-- what the library's test of any of a list says
 pub program_in_any : (xs : List Order) → any_program xs ≡ list_any (λ o. program o.kind) xs
 program_in_any = same_from_clauses any_program (list_any (λ o. program o.kind)) (λ o b. program o.kind || b) refl (λ _ _. refl) (λ _ _. refl)
 

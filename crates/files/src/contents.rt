@@ -6,10 +6,9 @@ ghost use Rattle.files.specs.Files.{short_at, count_of, offset_of, length_of, bo
 fn short_at(file: &[u8], at: usize) -> u16
     ensures { result ≡ short_at file.now at }
 {
-    match file.get(at..) {
-        Some([low, high, ..]) => u16::from_le_bytes([*low, *high]),
-        Some([low]) => u16::from(*low),
-        _ => 0,
+    match file.get(at..at.saturating_add(2)) {
+        Some([low, high]) => u16::from_le_bytes([*low, *high]),
+        _ => file.get(at).map_or(0, |low| u16::from(*low)),
     }
 }
 

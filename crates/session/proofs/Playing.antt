@@ -1,6 +1,7 @@
 -- The lines of a session played one by one: what is written, and the text of those that are left, make the whole. Assumes nothing.
-use Rattle.std.proofs.Common.{◌≡◌, ℕ, zero, suc, ◌+◌, ◌<◌, ◌≤◌, true, List, [], ◌∷◌, ◌++◌, length, drop, is_some, Some, None, Ok, Err, Option, Result, sym, refl, ap, ◌∙◌, append_assoc, arith, length-append, length-take}
+use Rattle.std.proofs.Common.{◌≡◌, ℕ, zero, suc, ◌+◌, ◌<◌, ◌≤◌, true, List, [], ◌∷◌, ◌++◌, length, drop, is_some, Some, None, Ok, Err, Option, Result, sym, refl, ap, ◌∙◌, subst, append_assoc, append-nil, arith, length-append, length-take}
 use Rattle.std.proofs.lemmas.Bool.{cond_both}
+use Rattle.std.proofs.lemmas.List.{drop_all}
 use Rattle.market.specs.declared.types.Refusal.{Refusal}
 use Rattle.market.specs.declared.types.Refusal.TheVariants.{NotResting}
 use Rattle.market.specs.Words.{opposite}
@@ -65,6 +66,17 @@ module _ {ranking : Ranking} {start m : Market} {lines : List Line} {i : ℕ} {o
         whole = rw after_is (append_assoc p.text text _ ∙ text_left line here);
         market = rw after_is (ap (λ ls. after (terms ranking) m (calls ls)) (sym (drop_nth lines i line here)) ∙ p.market);
       }
+
+  -- what is written is no longer than the whole
+  pub played_short : page.written ≤ old.written + length (text_from ranking start lines)
+  played_short = omega (arith, p.wrote.end, ap length p.whole, length-append p.text (text_from ranking m (drop i lines)))
+
+  -- when no line is left, the whole is written, and m is where all calls lead
+  pub played_all : length lines ≤ i → Wrote old page (text_from ranking start lines) × (m ≡ after (terms ranking) start (calls lines))
+  played_all h =
+      let none : drop i lines ≡ [] = drop_all i lines h in
+      let whole : p.text ≡ text_from ranking start lines = sym (append-nil p.text) ∙ ap (λ ls. p.text ++ text_from ranking m ls) (sym none) ∙ p.whole in
+      (subst (Wrote old page) whole p.wrote, ap (λ ls. after (terms ranking) m (calls ls)) (sym none) ∙ p.market)
 
 -- An accepted call answers how many rows it wrote.
 abbrev Tallied : Result Accepted Refusal → List Row → Type 0

@@ -1,5 +1,5 @@
 -- Texts written one behind another on a page. Assumes nothing.
-use Rattle.std.proofs.Common.{◌≡◌, ℕ, ◌+◌, ◌<◌, List, [], ◌++◌, length, get_or, take, drop, sym, ap, ◌∙◌, subst, append_assoc, arith, length-append, length-drop}
+use Rattle.std.proofs.Common.{◌≡◌, ℕ, ◌+◌, ◌<◌, List, [], ◌∷◌, ◌++◌, length, get_or, take, drop, sym, ap, ◌∙◌, subst, append_assoc, arith, length-append, length-drop}
 use Rattle.std.proofs.Math.Seq.{take-append_seam, drop-append_seam}
 use Rattle.std.proofs.lemmas.List.{length-take-le, take_more, flat_map_more}
 use Rattle.std.proofs.lemmas.List.Folds.{length-flat_map-take}
@@ -34,6 +34,14 @@ wrote_so {p} {q} {text} same room end is =
       front = ap (λ n. take n q.bytes.now) long ∙ ap (take (length (old ++ text))) whole ∙ take-append_seam (old ++ text) rest;
       behind = ap (λ n. drop n q.bytes.now) long ∙ ap (drop (length (old ++ text))) whole ∙ drop-append_seam (old ++ text) rest;
     }
+
+-- the byte that is written next has room
+pub bytes_room : {p q : Page} (text : List ℕ) (i d : ℕ) → i < length text → HasRoom p text → Wrote p q (take i text) → HasRoom q (get_or text i d ∷ [])
+bytes_room text i d h room w = omega (arith, length-take-le i text (omega arith), w.end, w.same_length)
+
+-- one byte more
+pub bytes_wrote : {p q r : Page} (text : List ℕ) (i d : ℕ) → i < length text → Wrote p q (take i text) → Wrote q r (get_or text i d ∷ []) → Wrote p r (take (i + 1) text)
+bytes_wrote {p} {q} {r} text i d h w v = subst (Wrote p r) (sym (take_more text i d h)) (wrote_then w v)
 
 -- the row that is written next has room
 pub rows_room : {p q : Page} (rows : List Row) (i : ℕ) (d : Row) → i < length rows → HasRoom p (rows_text rows) → Wrote p q (rows_text (take i rows)) → HasRoom q (row_text (get_or rows i d))

@@ -38,9 +38,10 @@ impl<'a> Page<'a> {
         requires { HasRoom self.old text.now }
         ensures { Wrote self.old self.new text.now }
     {
-        let end = self.written + text.len();
-        self.bytes[self.written..end].copy_from_slice(text);
-        self.written = end;
+        // Byte by byte, since std's `copy_from_slice` needs `memmove`, which a C host may not have.
+        for b in text {
+            self.byte(*b);
+        }
     }
 
     // A number in decimal. Its digits are written up to the place where they end.

@@ -7,7 +7,7 @@ ghost use Rattle.rules.specs.Rankings.{size_time};
 ghost use Rattle.law.specs.Law.{after};
 ghost use Rattle.files.specs.Lines.{line_of};
 ghost use Rattle.files.specs.Calls.{call_of};
-ghost use Rattle.files.specs.Files.{read_file, lines_in};
+ghost use Rattle.files.specs.Files.{read_file, lines_in, counted};
 ghost use Rattle.session.specs.Listing.{label_text};
 ghost use Rattle.session.specs.Pages.{HasRoom, Wrote};
 ghost use Rattle.session.specs.Markets.{market_of, outcome_of, played_text, text_from};
@@ -110,6 +110,37 @@ impl<R: Ranking + Copy> Session<R> {
     }
 }
 
+// Plays an accepted file over a fresh book, and answers the length of the listing. Apart from `run`, so
+// that no file waits for the cells of a session to be cleared before it is refused.
+fn play_file<R: Ranking + Copy, B: Board>(
+    ranking: R,
+    board: &mut B,
+    file: &[u8],
+    count: usize,
+    listing: &mut [u8],
+) -> usize
+    requires read { Ok count ≡ counted (read_file file.now) }
+    requires room { 65536 ≤ length listing.old }
+    ensures answer { Ok result ≡ answer_of (R.ranked ranking) (B.quotes board.old) (session_lines (length listing.old) file.now) }
+    ensures listing { listing.new ≡ listing_after (R.ranked ranking) (B.quotes board.old) (session_lines (length listing.old) file.now) listing.old }
+    ensures board { B.quotes board.new ≡ quotes_after (R.ranked ranking) (B.quotes board.old) (session_lines (length listing.old) file.now) }
+    ensures fair { FairSession (R.ranked ranking) (B.quotes board.old) (session_lines (length listing.old) file.now) }
+    ensures short { result ≤ 46000 }
+    ensures ran { Ran file.now listing.old listing.new (Ok result) }
+{
+    let mut session = Session {
+        book: Book::make(ranking, &[NO_ORDER; CELLS], &[NO_ORDER; CELLS]).unwrap(),
+        bids: [NO_ORDER; CELLS],
+        offers: [NO_ORDER; CELLS],
+        report: [NO_ROW; REPORT_ROWS],
+    };
+    let mut page = Page::new(listing);
+    session.play_all(file, count, board, &mut page);
+    let lit = session.book.light(&session.bids, &session.offers).unwrap();
+    page.light(lit);
+    page.written
+}
+
 // Runs the session of a file over a fresh book and a board, and answers the length of the listing.
 pub fn run<R: Ranking + Copy, B: Board>(
     ranking: R,
@@ -128,17 +159,7 @@ pub fn run<R: Ranking + Copy, B: Board>(
         return Err(Refusal::ShortListing);
     }
     let count = check_file(file)?;
-    let mut session = Session {
-        book: Book::make(ranking, &[NO_ORDER; CELLS], &[NO_ORDER; CELLS]).unwrap(),
-        bids: [NO_ORDER; CELLS],
-        offers: [NO_ORDER; CELLS],
-        report: [NO_ROW; REPORT_ROWS],
-    };
-    let mut page = Page::new(listing);
-    session.play_all(file, count, board, &mut page);
-    let lit = session.book.light(&session.bids, &session.offers).unwrap();
-    page.light(lit);
-    Ok(page.written)
+    Ok(play_file(ranking, board, file, count, listing))
 }
 
 // The session that the rig plays: size-time, and a board without a quotation.

@@ -3,7 +3,7 @@
 // handed the standing part of the slice, and only the methods here touch the cells.
 #![tactic(auto)]
 
-ghost use Rattle.std.specs.Prelude.{◌≡◌, ℕ, ◌+◌, ◌<◌, ◌≤◌, Bool, min, length, take, drop, OnOk, OnErr, nat_eq, slice_set};
+ghost use Rattle.std.specs.Prelude.{◌≡◌, ℕ, ◌+◌, ◌<◌, ◌≤◌, Bool, ◌⊎◌, min, length, take, drop, Ok, Err, OnOk, OnErr, nat_eq, slice_set};
 ghost use Rattle.std.specs.List.{insert, remove};
 ghost use Rattle.shelf.specs.Order.{Total};
 ghost use Rattle.shelf.specs.Standing.{first, first_at, put_in, nth};
@@ -57,6 +57,13 @@ pub fn empty<T>(_cells: &[T]) -> usize
     0
 }
 
+// How many things stand in cells of which so many are said to be in use.
+pub fn count<T>(cells: &[T], used: usize) -> usize
+    ensures { result ≡ length (take used cells.now) }
+{
+    used.min(cells.len())
+}
+
 impl<'a, T> Shelf<'a, T> {
     // The shelf of cells of which so many are in use, or all where there are no more.
     pub fn over(cells: &'a mut [T], used: usize) -> Shelf<'a, T>
@@ -64,7 +71,7 @@ impl<'a, T> Shelf<'a, T> {
         ensures cells { result.cells.now ≡ cells.old }
         ensures count { result.count ≡ min used (length cells.old) }
     {
-        let count = used.min(cells.len());
+        let count = count(cells, used);
         Shelf { cells, count }
     }
 
@@ -143,6 +150,48 @@ impl<'a, T: Shelved> Shelf<'a, T> {
         self.insert_at(at, x);
         Ok(())
     }
+}
+
+// Sends back a count above the number of cells.
+fn check_count<T>(cells: &[T], used: usize) -> Result<(), Absent>
+    ensures ok { OnOk result (used ≤ length cells.now) }
+    ensures err { OnErr result (length cells.now < used) }
+{
+    if used > cells.len() {
+        return Err(Absent);
+    }
+    Ok(())
+}
+
+// The same three writes for a lender who makes one at a time and keeps the count beside his cells: `put`
+// and `take_out` answer the new count. Where one is refused, the cells stay as they were.
+pub fn put<T: Shelved, P: Precedence<T::Key>>(
+    order: &P,
+    cells: &mut [T],
+    used: usize,
+    x: T,
+) -> Result<usize, Full>
+    ensures { elim result [ Ok n ↦ (n ≡ used + 1) × (n ≤ length cells.old) × (take n cells.new ≡ put_in (λ a b. P.ahead order.now (T.keyed a) (T.keyed b)) x (take used cells.old)) × (drop n cells.new ≡ drop n cells.old) | Err e ↦ (cells.new ≡ cells.old) × (length cells.old ≤ used) ] }
+{
+    let mut shelf = Shelf::over(cells, used);
+    shelf.put(order, x)?;
+    Ok(shelf.count())
+}
+
+pub fn take_out<T: Copy>(cells: &mut [T], used: usize, at: usize) -> Result<usize, Absent>
+    ensures { elim result [ Ok n ↦ (n + 1 ≡ used) × (at < used) × (used ≤ length cells.old) × (take n cells.new ≡ remove (take used cells.old) at) × (drop n cells.new ≡ drop n cells.old) | Err e ↦ (cells.new ≡ cells.old) × ((used ≤ at) ⊎ (length cells.old < used)) ] }
+{
+    check_count(cells, used)?;
+    let mut shelf = Shelf::over(cells, used);
+    shelf.take_out(at)?;
+    Ok(shelf.count())
+}
+
+pub fn replace<T: Copy>(cells: &mut [T], used: usize, at: usize, x: T) -> Result<(), Absent>
+    ensures { elim result [ Ok _ ↦ (at < used) × (used ≤ length cells.old) × (take used cells.new ≡ slice_set (take used cells.old) at x) × (drop used cells.new ≡ drop used cells.old) | Err e ↦ (cells.new ≡ cells.old) × ((used ≤ at) ⊎ (length cells.old < used)) ] }
+{
+    check_count(cells, used)?;
+    Shelf::over(cells, used).replace(at, x)
 }
 
 // The place of the first thing that `x` is ahead of, or the end. Not by halving, since this holds of

@@ -1,11 +1,14 @@
-use Rattle.std.proofs.Common.{sym, ◌∙◌, rules}
-use Rattle.std.proofs.lemmas.Iterator.{YieldsList-from_slice}
-use Rattle.std.proofs.lemmas.Iterator.Search.{all_from_yields_List}
-use Rattle.rules.specs.Trading.{worse_than}
-use Rattle.book.proofs.Loops.{worse_than_all}
+use Rattle.std.proofs.Common.{sym, ◌∙◌}
+use Rattle.book.proofs.Loops.{worse_more, worse_stop, worse_all}
 use Rattle.book.proofs.eligible.all_worse.Goals as goal
 
+pub returns-then-not-is_worse : goal.returns-then-not-is_worse
+returns-then-not-is_worse c =
+    sym (worse_stop c.args.price c.args.orders.now c.loop-order.order-index _ c.loop-order-test.true (sym c.if-not-is_worse.ensures)) ∙ c.loop-order.invariant
+
+pub loop-order-preserved : goal.loop-order-preserved
+loop-order-preserved c =
+    sym (worse_more c.args.price c.args.orders.now c.loop-order.order-index _ c.loop-order-test.true (sym c.if-not-is_worse.ensures)) ∙ c.loop-order.invariant
+
 pub returns : goal.returns
-returns c =
-    all_from_yields_List (worse_than c.args.price) _ _ _ c.all.ensures.ran (YieldsList-from_slice c.args.orders.now c.iter.ensures.rest) (λ x b q k. search rules)
-    ∙ sym (worse_than_all c.args.price c.args.orders.now)
+returns c = sym (worse_all c.args.price c.args.orders.now c.loop-order.order-index c.loop-order-test.false) ∙ c.loop-order.invariant

@@ -1,15 +1,8 @@
-use Rattle.std.proofs.Common.{refl, arith}
-use Rattle.std.proofs.lemmas.Slice.{take-put_mid, drop-put_mid}
-use borrow.Rule.Slice.PartMut.{same_len_mid}
+use Rattle.session.proofs.Writing.{bytes_room, bytes_wrote}
 use Rattle.session.proofs.listing.Page.text.Goals as goal
 
-pub returns : goal.returns
-returns c =
-    let page = c.args.self.now in
-    record {
-      same_bytes = refl;
-      same_length = same_len_mid page.written _ page.bytes.now _ c.copy_from_slice.ensures.len;
-      end = refl;
-      front = rw c.copy_from_slice.ensures.after (take-put_mid page.written _ page.bytes.now _ _ refl (omega arith));
-      behind = drop-put_mid page.written _ page.bytes.now _ _ (omega arith) (omega arith) (omega arith);
-    }
+pub byte-requires : goal.byte-requires
+byte-requires c = bytes_room c.args.text.now c.loop-b.b-index 0 c.loop-b-test.true c.requires c.loop-b.invariant
+
+pub loop-b-preserved : goal.loop-b-preserved
+loop-b-preserved c = bytes_wrote c.args.text.now c.loop-b.b-index _ c.loop-b-test.true c.loop-b.invariant c.byte.ensures
